@@ -90,7 +90,8 @@ module _ (view : VolumeView) (marks : Marks) (file : FileParts) (table key : Lis
   pub leaf-entry : has_root_entry view (file_number file) (key_units key) ≡ false
       → has_leaf_entry view (file_number file) (key_units key) ≡ true
   leaf-entry none =
-      other-one (has_leaf_entry view (file_number file) (key_units key)) (has_root_entry view (file_number file) (key_units key)) can.entry none
+      other-one (has_leaf_entry view (file_number file) (key_units key))
+      (has_root_entry view (file_number file) (key_units key)) can.entry none
 
 -- what the call on the root gives, in the words of those above
 pub exits-root-as : (old new : VolumeView) (dir : ℕ) (key : List ℕ) → low.ExitsRoot old new dir key → ExitsRoot old new dir key

@@ -1,6 +1,6 @@
 -- THE NAME OF A FILE in the record that is held first, and what goes with it.
-use Rattle.std.proofs.Common.{◌≡◌, ◌+◌, ◌*◌, ◌<◌, ◌≤◌, ◌==◌, ℕ, false, List, [], ◌∷◌, Option, Some, None, Ok, Err, eq-eqb, filter, length, map, refl, sym, ap, subst, ◌∙◌}
-use Rattle.std.proofs.Common.{inl, inr, arith}
+use Rattle.std.proofs.Common.{◌≡◌, ◌+◌, ◌*◌, ◌<◌, ◌≤◌, ◌==◌, ℕ, false, List, [], ◌∷◌, Option, Some, None, Ok, Err, eq-eqb, filter, length}
+use Rattle.std.proofs.Common.{map, refl, sym, ap, subst, ◌∙◌, inl, inr, arith}
 use Rattle.std.specs.Prelude.{Contains, IfSome, IsSomeAnd, IsTrue, OnErr, OnOk, Result, filter_map, option_map, slice_get}
 use Rattle.std.proofs.lemmas.List.Elements.{All-contains}
 use Rattle.list_laws.proofs.MemberLaws.{Contains-filter, Contains-filter_map, Contains-flat_map, Contains-map, Contains-only}
@@ -75,7 +75,8 @@ module _ (view : VolumeView) (file : FileParts) (n : ℕ) (are : AreParts view f
   unfolding names_of
   told =
       let k = said-first (slice_get (held_of file) 0) (HasValueAt value) h in
-      Contains-filter_map (λ (p : Part). option_map name_in (content_value p.content)) (filter is_file_name (parts (records_of view) n)) part
+      Contains-filter_map (λ (p : Part). option_map name_in (content_value p.content))
+      (filter is_file_name (parts (records_of view) n)) part
       (name_in value)
       (Contains-filter is_file_name (parts (records_of view) n) part among (eq-eqb a.kind FILE_NAME k.2.name.kind))
       (ap (option_map name_in) (body-value a.body ∙ k.2.is))
@@ -83,13 +84,15 @@ module _ (view : VolumeView) (file : FileParts) (n : ℕ) (are : AreParts view f
   pub value-units : key_units value ≡ name.units
   unfolding name_in
   value-units =
-      let same : name ≡ name_in value = Contains-only name (name_in value) (subst (λ (xs : List FileName). Contains xs (name_in value)) only told) in
+      let same : name ≡ name_in value =
+      Contains-only name (name_in value) (subst (λ (xs : List FileName). Contains xs (name_in value)) only told) in
       ap (λ (f : FileName). f.units) (sym same)
 
 -- ITS ONE RECORD is that which is held
 module _ (view : VolumeView) (marks : Marks) (n : ℕ) (has : HasOneName view marks n) (file : FileParts) (number : file_number file ≡ n)
     (whole : IsWholeFile view file) (k : ℕ) (held : Held) (at : slice_get (held_of file) k ≡ Some held) where
-  own-number : (o : Option Record) → IsSomeAnd o (λ r. file_of held.number r ≡ n) → IfSome o (λ r. file_of held.number r ≡ n → held.number ≡ n)
+  own-number : (o : Option Record) → IsSomeAnd o (λ r. file_of held.number r ≡ n)
+      → IfSome o (λ r. file_of held.number r ≡ n → held.number ≡ n)
       → held.number ≡ n
   own-number None is only = absurd is
   own-number (Some r) is only = only is
@@ -122,15 +125,18 @@ module _ (old mid new : VolumeView) (marks : Marks) (n i : ℕ) (has : HasOneNam
 
   removes-held : RemovesAttribute old mid first.0.number i
   removes-held =
-      subst (λ o. IsSomeAnd o (λ (held : Held). 1024 * held.number + 1024 ≤ old.layout.initialized → RemovesAttribute old mid held.number i))
+      subst (λ o. IsSomeAnd o (λ (held : Held). 1024 * held.number + 1024 ≤ old.layout.initialized
+      → RemovesAttribute old mid held.number i))
       first.1 (removed told has.apart whole) low-first
 
   kind : removes-held.was.kind ≡ FILE_NAME
-  kind = ap (λ (a : Attribute). a.kind) (sym (attribute-held old was whole 0 first.0 first.1 i removes-held.was removes-held.there)) ∙ first.2.kind
+  kind = ap (λ (a : Attribute). a.kind) (sym (attribute-held old was whole 0 first.0 first.1 i removes-held.was removes-held.there))
+      ∙ first.2.kind
 
   whole-then : IsWholeFile mid now
   whole-then = held_then told has.apart whole
-      (first-said (slice_get (held_of was) 0) first.0 (λ (held : Held). 1024 * held.number + 1024 ≤ old.layout.initialized) first.1 low-first)
+      (first-said (slice_get (held_of was) 0) first.0
+      (λ (held : Held). 1024 * held.number + 1024 ≤ old.layout.initialized) first.1 low-first)
 
   -- its base record is held
   base-then : HoldsBase now
@@ -168,7 +174,8 @@ staged-by g layout n m a b (Err e) same stages kept =
     record { only = λ s there. inl (subst (λ (all : List ℕ). Contains all s) kept.places there) }
 
 pub read-then : {D : Type 0} (g : Ghosts D) (layout : TableLayout) (n reads : ℕ) (a b c : Mft D g) → MftReads g a b reads
-    → StagesOnly g (record_places layout n) (stage_of g b) (stage_of g c) → StagesOnly g (record_places layout n) (stage_of g a) (stage_of g c)
+    → StagesOnly g (record_places layout n) (stage_of g b) (stage_of g c)
+    → StagesOnly g (record_places layout n) (stage_of g a) (stage_of g c)
 read-then g layout n reads a b c read stages = record {
   only = λ s there. elim (stages.only s there) [
     | inl was ↦ inl (subst (λ (xs : List ℕ). Contains xs s) read.stage.only_reads.places was)

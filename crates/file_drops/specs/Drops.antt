@@ -8,8 +8,8 @@ use Rattle.file_makes.specs.Under.{HasRecordRoom}
 use Rattle.gone_edits.specs.Goes.{CanGo}
 use Rattle.file_drops.specs.Exits.{HasExit}
 
--- The file is one that can go, and its entry can go out of the index of its directory; the flag of its record has a place in the stored bitmap,
--- and its block was written, as were those of the directory.
+-- The file is one that can go, and its entry can go out of the index of its directory; the flag of its record has a place in the stored
+-- bitmap, and its block was written, as were those of the directory.
 pub record MayDrop (view : VolumeView) (n dir : ℕ) : Type 0 where
   pub file : Node
   pub parent : Node

@@ -1,5 +1,6 @@
 -- THE RECORD OF A FILE THAT GOES may be freed, and its flag cleared behind that.
--- Layout: Linux-NTFS documentation, "File Record", file $MFT, attribute $BITMAP; Carrier, File System Forensic Analysis, chapters 11 and 13.
+-- Layout: Linux-NTFS documentation, "File Record", file $MFT, attribute $BITMAP;
+-- Carrier, File System Forensic Analysis, chapters 11 and 13.
 use Rattle.std.specs.Prelude.{◌≡◌, ℕ, ◌+◌, ◌*◌, ◌≤◌, true}
 use Rattle.volume_def.specs.BitmapClauses.{record_bits}
 use Rattle.volume_def.specs.Coverage.{IsApart}

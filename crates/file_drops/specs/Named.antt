@@ -15,8 +15,8 @@ use Rattle.file_record.specs.declared.held.Held.{Held}
 use Rattle.edit_def.specs.Marks.{Marks}
 use Rattle.record_edits.specs.Between.{IsReady}
 
--- The volume stands as between two calls, and its clusters lie apart; the file has one name, and one record, whose attributes are values, and
--- which lies in what was written of the table.
+-- The volume stands as between two calls, and its clusters lie apart; the file has one name, and one record, whose attributes are values,
+-- and which lies in what was written of the table.
 pub record HasOneName (view : VolumeView) (marks : Marks) (n : ℕ) : Type 0 where
   pub ready : IsReady view marks
   pub apart : IsApart view.layout

@@ -52,8 +52,8 @@ fn name_value(file: &FileParts) -> Option<&[u8]>
     }
 }
 
-/// The value of the one name of a file, which is the key of its entry. Where there is no whole name, as never where there is one, `Memory` is
-/// answered.
+/// The value of the one name of a file, which is the key of its entry. Where there is no whole name, as never where there is one, `Memory`
+/// is answered.
 ///
 /// # Errors
 ///

@@ -142,7 +142,8 @@ module _ (left counted : VolumeView) (n : ℕ) (name : FileName) (marks : Marks)
   edited-unnamed : Edited (is_name_key_of n) nothing left unnamed marks marks
   edited-unnamed =
       Edited-more _ (is_name_key_of n) nothing nothing left unnamed marks marks
-      (λ key free. own-name n e.was.kind e.was.name key q.kind free) (within-same nothing) (edited-goes n q.at left unnamed marks e ready one other)
+      (λ key free. own-name n e.was.kind e.was.name key q.kind free) (within-same nothing)
+      (edited-goes n q.at left unnamed marks e ready one other)
 
   block-unnamed : unnamed.block n ≡ e.stored
   block-unnamed = e.edits.replaces.block e.edits.told

@@ -1,5 +1,6 @@
 //! One bit set in a byte of a cluster.
-ghost use Rattle.std.specs.Prelude.{◌≡◌, ◌≢◌, ◌+◌, ◌*◌, ◌/◌, ◌%◌, ◌<◌, ◌≤◌, ℕ, IfErr, IsTrue, MatchResult, OnOk, false, length, slice_index};
+ghost use Rattle.std.specs.Prelude.{◌≡◌, ◌≢◌, ◌+◌, ◌*◌, ◌/◌, ◌%◌, ◌<◌, ◌≤◌, ℕ, IfErr, IsTrue, MatchResult, OnOk};
+ghost use Rattle.std.specs.Prelude.{false, length, slice_index};
 ghost use Rattle.list_laws.specs.Bits.{bit_in};
 ghost use Rattle.ntfs_def.specs.declared.run_text.Spot.{Spot};
 ghost use Rattle.ntfs_def.specs.declared.run_text.Spot.TheVariants.{At};

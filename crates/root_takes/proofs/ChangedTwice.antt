@@ -60,13 +60,15 @@ module _ (old mid : VolumeView) (n i : ℕ) (f : List ℕ → List ℕ) (a : Cha
   now-then = ap (λ xs. slice_get xs i) attributes-then ∙ get-set (attributes (opened_record old n)) i a.was a.now a.there
 
 -- AND BOTH TOGETHER
-module _ (old mid new : VolumeView) (n i : ℕ) (f g : List ℕ → List ℕ) (a : ChangesValue old mid n i f) (b : ChangesValue mid new n i g) where
+module _ (old mid new : VolumeView) (n i : ℕ) (f g : List ℕ → List ℕ) (a : ChangesValue old mid n i f)
+    (b : ChangesValue mid new n i g) where
   same : b.was ≡ a.now
   same = some_same (sym b.there ∙ now-then old mid n i f a)
 
   attributes-now : attributes (opened_of b.stored) ≡ set (attributes (opened_record old n)) i b.now
   attributes-now =
-      b.attributes_are ∙ ap (λ xs. set xs i b.now) (attributes-then old mid n i f a) ∙ set-set (attributes (opened_record old n)) i a.now b.now
+      b.attributes_are ∙ ap (λ xs. set xs i b.now) (attributes-then old mid n i f a)
+      ∙ set-set (attributes (opened_record old n)) i a.now b.now
 
   pub changed-twice : (change : List ℕ → List ℕ)
       → option_map g (option_map f (value_of a.was.body)) ≡ option_map change (value_of a.was.body) → ChangesValue old new n i change

@@ -6,7 +6,8 @@ use Rattle.vol_bytes.specs.Field.{u32_at}
 use Rattle.vol_bytes.proofs.FieldLaws.{u32_at-same}
 use Rattle.ntfs_def.specs.FileName.{is_name_key}
 use Rattle.ntfs_def.specs.IndexRoot.{index_record_len, key_collation}
-use Rattle.ntfs_def.specs.IndexTree.{Ascends, Branch, Each, Spread, Tree, Walks, branch_times, node_of, spread_items, spread_times, times_in}
+use Rattle.ntfs_def.specs.IndexTree.{Ascends, Branch, Each, Spread, Tree, Walks, branch_times, node_of}
+use Rattle.ntfs_def.specs.IndexTree.{spread_items, spread_times, times_in}
 use Rattle.ntfs_def.specs.KeyOrder.{name_order}
 use Rattle.ntfs_def.specs.Node.{Item, Node, short_node}
 use Rattle.ntfs_def.specs.declared.index.NodeForm.TheVariants.{Names}
@@ -103,7 +104,8 @@ module _ (old new : VolumeView) (dir i : ℕ) (before after : List ℕ) (root : 
           extent.sizes.initialized ≡ extent.sizes.real))) (sym records-same) has.written;
       root_node = node';
       says = shrunk.shrinks.short has.root_node says;
-      walks = walks_moved (index_nodes Names old (names_of_directory old dir)) (index_nodes Names new (names_of_directory new dir)) node' now
+      walks = walks_moved (index_nodes Names old (names_of_directory old dir))
+          (index_nodes Names new (names_of_directory new dir)) node' now
           walk (λ vcn met. absurd (never vcn met));
       each = λ vcn met. absurd (never vcn met);
       keys = all-of (λ (x : Item). IsTrue (is_name_key x.key)) now taken.index.keys;

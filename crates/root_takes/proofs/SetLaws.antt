@@ -1,6 +1,6 @@
 -- A VALUE THAT GETS ANOTHER, no longer one, in a record that is held: bytes are put over it, and then it is cut.
-use Rattle.std.proofs.Common.{◌≡◌, ◌+◌, ◌-◌, ◌*◌, ◌<◌, ◌≤◌, ◌++◌, ℕ, zero, suc, List, [], ◌∷◌, Option, Some, None, Ok, Err, drop, get_or, length, max, map, take, refl, sym, ap, subst, ◌∙◌}
-use Rattle.std.proofs.Common.{inl, inr, arith}
+use Rattle.std.proofs.Common.{◌≡◌, ◌+◌, ◌-◌, ◌*◌, ◌<◌, ◌≤◌, ◌++◌, ℕ, zero, suc, List, [], ◌∷◌, Option, Some, None, Ok, Err, drop, get_or}
+use Rattle.std.proofs.Common.{length, max, map, take, refl, sym, ap, subst, ◌∙◌, inl, inr, arith}
 use Rattle.std.specs.Prelude.{◌⊎◌, Contains, IfSome, IsSome, IsSomeAnd, IsTrue, OnErr, OnOk, Result, false, replicate, slice_get}
 use Rattle.std.specs.Option.{option_map}
 use Rattle.std.proofs.lemmas.List.{append-nil, length-append}
@@ -143,7 +143,8 @@ module _ (held : Held) (i len : ℕ) (holds : HoldsValue i len held) where
   pub cuts : used_size held.block + len_with held.block i len ≤ 1024 + attribute_len held.block (attribute_place held.block i)
   cuts =
       let whole : max (0 + (length its.0 + 0)) (length its.0) ≡ length its.0 = omega arith in
-      let all : used_size held.block + len_with held.block i (length its.0) ≤ 1024 + attribute_len held.block (attribute_place held.block i) =
+      let all : used_size held.block + len_with held.block i (length its.0)
+      ≤ 1024 + attribute_len held.block (attribute_place held.block i) =
       subst (λ n. used_size held.block + len_with held.block i n ≤ 1024 + attribute_len held.block (attribute_place held.block i)) whole
       whole-fits in
       omega (arith, all, its.2)
@@ -156,7 +157,8 @@ module _ (view : VolumeView) (file : FileParts) (whole : IsWholeFile view file) 
     (at : slice_get (held_of file) k ≡ Some held) where
   own : IsRecordOf view (file_number file) held.number
   own =
-      All-contains (λ (one : Held). IsRecordOf view (file_number file) one.number) (held_of file) held whole.own (at-among (held_of file) k held at)
+      All-contains (λ (one : Held). IsRecordOf view (file_number file) one.number) (held_of file) held whole.own
+      (at-among (held_of file) k held at)
 
   bare : bare_of held.block ≡ bare_of (opened_of (view.block held.number))
   bare = All-contains (IsCurrentRecord view) (held_of file) held whole.parts.current (at-among (held_of file) k held at)
@@ -179,7 +181,8 @@ module _ (view : VolumeView) (file : FileParts) (whole : IsWholeFile view file) 
         some_same (sym (slice_get-attributes held.block (length (attributes held.block)) i (held-shape held) within-held) ∙ there-held)
 
 -- the same record is held then
-pub same-number : (olds news : List Held) (k : ℕ) (was : Held) → map (λ (one : Held). one.number) news ≡ map (λ (one : Held). one.number) olds
+pub same-number : (olds news : List Held) (k : ℕ) (was : Held)
+    → map (λ (one : Held). one.number) news ≡ map (λ (one : Held). one.number) olds
     → slice_get olds k ≡ Some was → (now : Held) × (slice_get news k ≡ Some now) × (now.number ≡ was.number)
 same-number [] news k was same at = cc
 same-number (one ∷ olds) [] k was same at = cc
@@ -249,7 +252,8 @@ pub staged-twice : {D : Type 0} (g : Ghosts D) (a b c : Mft D g) (layout mid : T
 staged-twice g a b c layout mid n m same number first second = record {
   only = λ s there. elim (second.only s there) [
     | inl was ↦ first.only s was
-    | inr new ↦ inr (subst (λ (l : TableLayout). Contains (record_places l n) s) same (subst (λ k. Contains (record_places mid k) s) number new))
+    | inr new ↦ inr (subst (λ (l : TableLayout). Contains (record_places l n) s) same
+        (subst (λ k. Contains (record_places mid k) s) number new))
   ];
 }
 

@@ -1,6 +1,6 @@
 -- WHAT THE CALL PROMISES that took an entry out of the root of a directory that is held, from what was done in its record.
-use Rattle.std.proofs.Common.{◌≡◌, ◌+◌, ◌*◌, ◌<◌, ◌≤◌, ◌&&◌, not, ℕ, Bool, true, false, List, filter, get_or, length, take, Option, Some, None}
-use Rattle.std.proofs.Common.{refl, sym, ap, subst, ◌∙◌, arith}
+use Rattle.std.proofs.Common.{◌≡◌, ◌+◌, ◌*◌, ◌<◌, ◌≤◌, ◌&&◌, not, ℕ, Bool, true, false, List, filter, get_or, length, take, Option, Some}
+use Rattle.std.proofs.Common.{None, refl, sym, ap, subst, ◌∙◌, arith}
 use Rattle.std.specs.List.{flat_map}
 use Rattle.std.specs.Option.{option_and_then, option_map_or}
 use Rattle.std.specs.Prelude.{IsSomeAnd, IsTrue, is_some, slice_get}
@@ -71,7 +71,8 @@ unfolding has_root_entry
 entry-parts view dir units h = first-and-last (is_root_leaf view dir) (not (has_list view dir)) (is_in_root view dir units) h
 
 -- a value that is no longer stands in the place of a root that shrank
-pub holds-shrunk : (order : List ℕ → List ℕ → Ordering) (held : Held) (left : ℕ) (key after : List ℕ) → left < length (attributes held.block)
+pub holds-shrunk : (order : List ℕ → List ℕ → Ordering) (held : Held) (left : ℕ) (key after : List ℕ)
+    → left < length (attributes held.block)
     → ShrinksIn order held.block left key after → HoldsValue left (length after) held
 holds-shrunk order held left key after within s = record {
   within = within;
@@ -140,7 +141,8 @@ module _ (old : VolumeView) (file : FileParts) (table key : List ℕ) (marks : M
     last : h.index.root_node.last ≡ None
     last =
         no-last h.index.root_node.last
-        (sym (ap (λ o. option_map_or (λ (said : Node). not (is_some said.last)) o false) root-is) ∙ (entry-parts old dir (key_units key) entry).0)
+        (sym (ap (λ o. option_map_or (λ (said : Node). not (is_some said.last)) o false) root-is)
+        ∙ (entry-parts old dir (key_units key) entry).0)
 
     hits : hits_on (λ x. name_order (fold_of table) x key) h.index.root_node.entries ≡ true
     unfolding name_order

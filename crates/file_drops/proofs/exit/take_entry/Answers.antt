@@ -25,7 +25,8 @@ take_from_index-requires-clause-can g c told_then =
     let readable = may.ready_for.ready.editable.readable in
     subst (λ (v : VolumeView). CanExit v (marks_of (mounted_of g.D.Disk c.load.new.mft)) c.in_ok-directory.directory c.in_ok-upcase.upcase
     c.args.key.now) (sym same)
-    (subst (λ (m : Mounted). CanExit old (marks_of m) c.in_ok-directory.directory c.in_ok-upcase.upcase c.args.key.now) (sym given.reads.mounted)
+    (subst (λ (m : Mounted). CanExit old (marks_of m) c.in_ok-directory.directory c.in_ok-upcase.upcase c.args.key.now)
+    (sym given.reads.mounted)
     (can-exit old (marks_of (mounted_of g.D.Disk c.args.mft.now)) c.args.dir c.in_ok-directory.directory
     (mounted_of g.D.Disk c.args.mft.now).upcase c.in_ok-upcase.upcase c.args.key.now may given.number
     (c.in_ok-upcase.ensures.same ∙ ap (λ (m : Mounted). m.upcase) c.mounted.ensures)

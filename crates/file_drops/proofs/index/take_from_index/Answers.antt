@@ -17,7 +17,8 @@ take_in_root-requires-clause-entry g c told =
     let v = view g.D.Disk c.args.mft.now in
     let holds = (c.requires.can told).holds in
     sym (c.has_root_entry.ensures v holds.items
-    (subst (λ table. IsHeldWith v c.args.dir.now table holds.items) (sym c.in_ok-shared.ensures.same) holds.held)) ∙ c.if-has_root_entry.true
+    (subst (λ table. IsHeldWith v c.args.dir.now table holds.items) (sym c.in_ok-shared.ensures.same) holds.held))
+    ∙ c.if-has_root_entry.true
 
 pub take_in_root-requires-clause-can : goal.take_in_root-requires-clause-can
 take_in_root-requires-clause-can g c told =
@@ -64,4 +65,5 @@ returns-else-has_root_entry-clause-exits g c = on_ok_weaker c.take_item.result (
 
 pub returns-else-has_root_entry-clause-places : goal.returns-else-has_root_entry-clause-places
 returns-else-has_root_entry-clause-places g c told =
-    inl (staged-index g.D.Disk c.args.mft.now c.take_item.new.mft c.args.dir.now (c.requires.can told).whole.parts c.take_item.ensures.places)
+    inl (staged-index g.D.Disk c.args.mft.now c.take_item.new.mft c.args.dir.now
+    (c.requires.can told).whole.parts c.take_item.ensures.places)

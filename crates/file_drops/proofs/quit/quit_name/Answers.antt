@@ -48,7 +48,8 @@ set_links-requires-clause-mirror g c =
     let one = said-first (slice_get (held_of file) 0) (IsNameAt i) c.in-Some.ensures in
     let same = view-kept g.D.Disk a l 20678 given.reads in
     let r = c.remove_attribute.new.mft in
-    let first = disk-kept g.D.Disk l r file 0 one.0 one.1 c.remove_attribute.result (sound-then g.D.Disk a l 20678 given.reads c.requires.sound) c.remove_attribute.ensures.stages
+    let first = disk-kept g.D.Disk l r file 0 one.0 one.1 c.remove_attribute.result
+    (sound-then g.D.Disk a l 20678 given.reads c.requires.sound) c.remove_attribute.ensures.stages
     c.remove_attribute.ensures.kept in
     subst IsMirrorInside (sym (first.mounted ∙ given.reads.mounted)) c.requires.mirror
 
@@ -62,7 +63,8 @@ set_links-requires-clause-sound g c =
     let one = said-first (slice_get (held_of file) 0) (IsNameAt i) c.in-Some.ensures in
     let same = view-kept g.D.Disk a l 20678 given.reads in
     let r = c.remove_attribute.new.mft in
-    let first = disk-kept g.D.Disk l r file 0 one.0 one.1 c.remove_attribute.result (sound-then g.D.Disk a l 20678 given.reads c.requires.sound) c.remove_attribute.ensures.stages
+    let first = disk-kept g.D.Disk l r file 0 one.0 one.1 c.remove_attribute.result
+    (sound-then g.D.Disk a l 20678 given.reads c.requires.sound) c.remove_attribute.ensures.stages
     c.remove_attribute.ensures.kept in
     first.broken ∙ sound-then g.D.Disk a l 20678 given.reads c.requires.sound
 

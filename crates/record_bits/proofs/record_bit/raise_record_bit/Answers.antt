@@ -19,7 +19,8 @@ returns-in-At-clause-stored g c =
     on_ok_weaker c.raise_bit.result (λ raised told h.
     row-stored old (view g.D.Disk c.raise_bit.new.mft) file c.args.first h c.args.n told c.requires.written
     (raised told (spot_at (record_bits old)) at h.apart (rows-own old file c.args.first h)
-    (sym (spot-found old file c.args.first h (attribute_of c.attr-attribute.result) c.attr-attribute.ensures.part at c.cluster_bytes-size.result
+    (sym (spot-found old file c.args.first h (attribute_of c.attr-attribute.result)
+    c.attr-attribute.ensures.part at c.cluster_bytes-size.result
     c.in_ok-cluster.field-0 size c.in_ok-cluster.ensures) ∙ c.in-At.is)
     (ap (λ n. at % n) (sym size)))) c.raise_bit.ensures.raised
 
@@ -30,7 +31,8 @@ returns-in-At-clause-places g c h sector there =
     let size = c.cluster_bytes-size.ensures in
     let at = c.args.n / 8 in
     elim ((c.raise_bit.ensures.places (spot_at (record_bits old)) at
-    (sym (spot-found old file c.args.first h (attribute_of c.attr-attribute.result) c.attr-attribute.ensures.part at c.cluster_bytes-size.result
+    (sym (spot-found old file c.args.first h (attribute_of c.attr-attribute.result)
+    c.attr-attribute.ensures.part at c.cluster_bytes-size.result
     c.in_ok-cluster.field-0 size c.in_ok-cluster.ensures) ∙ c.in-At.is)
     (ap (λ n. at % n) (sym size))).only sector there) [
       | inl was ↦ inl was
@@ -46,7 +48,8 @@ returns-in-Hole g c =
       stored = λ told h.
           let there = rows-placed old file c.args.first h at (inside old old file c.args.first h c.args.n told c.requires.written) in
           let is : c.in_ok-cluster.field-0 ≡ At there.0 =
-          spot-found old file c.args.first h (attribute_of c.attr-attribute.result) c.attr-attribute.ensures.part at c.cluster_bytes-size.result
+          spot-found old file c.args.first h (attribute_of c.attr-attribute.result)
+          c.attr-attribute.ensures.part at c.cluster_bytes-size.result
           c.in_ok-cluster.field-0 c.cluster_bytes-size.ensures c.in_ok-cluster.ensures ∙ there.1 in
           absurd (elim c.in-Hole.is [
             | inl hole ↦ let e : Hole ≡ At there.0 = sym hole ∙ is in nowhere-hole there.0 e

@@ -65,7 +65,8 @@ resize_attribute-requires-clause-fits g c =
     ≤ 1024 + attribute_len held.block (attribute_place held.block i)) (cuts one.0 i c.args.len one.2)
 
 pub returns-clause-cut : goal.returns-clause-cut
-returns-clause-cut g c = on_ok_weaker c.resize_attribute.result (λ w told apart whole holds. w told apart whole) c.resize_attribute.ensures.resized
+returns-clause-cut g c = on_ok_weaker c.resize_attribute.result
+    (λ w told apart whole holds. w told apart whole) c.resize_attribute.ensures.resized
 
 pub returns-clause-held : goal.returns-clause-held
 returns-clause-held g c = c.resize_attribute.ensures.held
@@ -84,7 +85,8 @@ returns-clause-places g c =
     subst (λ o. IfSome o (λ held. StagesOnly g.D.Disk (record_places (view g.D.Disk a).layout held.number) (stage_of g.D.Disk a)
     (stage_of g.D.Disk b))) (sym one.1) (staged-held g.D.Disk a b (view g.D.Disk a).layout one.0.number c.resize_attribute.result
     (on_ok_weaker c.resize_attribute.result (of-held file k one.0 one.1
-    (λ held. MftStages g.D.Disk (record_places (view g.D.Disk c.args.mft.now).layout held.number) 4 c.args.mft.now c.resize_attribute.new.mft))
+    (λ held. MftStages g.D.Disk (record_places (view g.D.Disk c.args.mft.now).layout held.number)
+    4 c.args.mft.now c.resize_attribute.new.mft))
     c.resize_attribute.ensures.stages) c.resize_attribute.ensures.kept)
 
 pub returns-clause-disk : goal.returns-clause-disk
@@ -102,7 +104,9 @@ returns-clause-faults g c =
     let k = c.args.place.record in
     let i = c.args.place.attribute in
     let one = held-said (slice_get (held_of file) k) (HoldsValue i c.args.len) (c.has_value.ensures.yes c.if-not-has_value.false) in
-    faults-kept g.D.Disk c.args.mft.now c.resize_attribute.new.mft (view g.D.Disk c.args.mft.now).layout one.0.number c.resize_attribute.result
+    faults-kept g.D.Disk c.args.mft.now c.resize_attribute.new.mft
+    (view g.D.Disk c.args.mft.now).layout one.0.number c.resize_attribute.result
     (on_ok_weaker c.resize_attribute.result (of-held file k one.0 one.1
-    (λ held. MftStages g.D.Disk (record_places (view g.D.Disk c.args.mft.now).layout held.number) 4 c.args.mft.now c.resize_attribute.new.mft))
+    (λ held. MftStages g.D.Disk (record_places (view g.D.Disk c.args.mft.now).layout held.number)
+    4 c.args.mft.now c.resize_attribute.new.mft))
     c.resize_attribute.ensures.stages) c.resize_attribute.ensures.kept

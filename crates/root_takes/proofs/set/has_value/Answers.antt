@@ -13,7 +13,8 @@ returns-clause-yes c = λ holds.
     let k = c.args.place.record in
     let held = c.index-records-place.result in
     let at = held-at held k c.records-records.result.now (omega (arith, c.if-place-records.false)) c.index-records-place.is in
-    to-held file k held (ap (λ (xs : List Held). slice_get xs k) (sym c.records-records.ensures) ∙ at) (HoldsValue c.args.place.attribute c.args.len)
+    to-held file k held (ap (λ (xs : List Held). slice_get xs k) (sym c.records-records.ensures) ∙ at)
+    (HoldsValue c.args.place.attribute c.args.len)
     (c.holds_value.ensures.yes holds)
 
 pub returns-clause-no : goal.returns-clause-no

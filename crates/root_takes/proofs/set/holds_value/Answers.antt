@@ -17,7 +17,8 @@ returns-in-Some-clause-yes c = λ long.
     let value_is : Some c.in-Some.value.now ≡ value_of (attribute_in held.block i).body =
     sym (ap option_copied c.in-Some.is) ∙ c.value.ensures
     ∙ ap (λ (b : List ℕ). value_of (attribute_at b c.attr.result.at).body) (c.attr.ensures.block ∙ c.view.ensures)
-    ∙ ap (λ a. value_of (attribute_at held.block a).body) (c.attr.ensures.place ∙ ap (λ (b : List ℕ). attribute_place b i) c.view.ensures) in
+    ∙ ap (λ a. value_of (attribute_at held.block a).body)
+    (c.attr.ensures.place ∙ ap (λ (b : List ℕ). attribute_place b i) c.view.ensures) in
     is-value held i c.args.len c.in-Some.value.now (omega (arith, c.if-i-count.false, c.count.ensures.count)) value_is
     (leb-true c.args.len (length c.in-Some.value.now) long)
 
@@ -28,7 +29,8 @@ returns-in-Some-clause-no c = λ holds.
     let value_is : Some c.in-Some.value.now ≡ value_of (attribute_in held.block i).body =
     sym (ap option_copied c.in-Some.is) ∙ c.value.ensures
     ∙ ap (λ (b : List ℕ). value_of (attribute_at b c.attr.result.at).body) (c.attr.ensures.block ∙ c.view.ensures)
-    ∙ ap (λ a. value_of (attribute_at held.block a).body) (c.attr.ensures.place ∙ ap (λ (b : List ℕ). attribute_place b i) c.view.ensures) in
+    ∙ ap (λ a. value_of (attribute_at held.block a).body)
+    (c.attr.ensures.place ∙ ap (λ (b : List ℕ). attribute_place b i) c.view.ensures) in
     le-leb c.args.len (length c.in-Some.value.now) (value-long held i c.args.len c.in-Some.value.now value_is holds)
 
 pub returns-in-None-clause-no : goal.returns-in-None-clause-no
@@ -38,5 +40,6 @@ returns-in-None-clause-no c = λ holds.
     let value_is =
     sym (ap option_copied c.in-None.is) ∙ c.value.ensures
     ∙ ap (λ (b : List ℕ). value_of (attribute_at b c.attr.result.at).body) (c.attr.ensures.block ∙ c.view.ensures)
-    ∙ ap (λ a. value_of (attribute_at held.block a).body) (c.attr.ensures.place ∙ ap (λ (b : List ℕ). attribute_place b i) c.view.ensures) in
+    ∙ ap (λ a. value_of (attribute_at held.block a).body)
+    (c.attr.ensures.place ∙ ap (λ (b : List ℕ). attribute_place b i) c.view.ensures) in
     absurd (value-none held i c.args.len value_is holds)

@@ -18,7 +18,8 @@ use Rattle.file_record.specs.Held.{RecordHeld, held_of}
 use Rattle.file_record.specs.Written.{IsWholeFile}
 use Rattle.root_puts.proofs.HeldRoot.{disk-kept, of-held, to-held}
 use Rattle.root_takes.specs.ShrunkRoot.{HoldsValue}
-use Rattle.root_takes.proofs.SetLaws.{faults-kept, few, held-said, holds-then, low-held, room, same-number, sets-value, staged-held, staged-twice}
+use Rattle.root_takes.proofs.SetLaws.{faults-kept, few, held-said, holds-then, low-held, room, same-number}
+use Rattle.root_takes.proofs.SetLaws.{sets-value, staged-held, staged-twice}
 use Rattle.root_takes.proofs.set.set_value.Goals as goal
 
 pub put_in_value-requires-clause-place : goal.put_in_value-requires-clause-place
@@ -145,7 +146,8 @@ returns-clause-set g c =
     let new = view g.D.Disk b in
     on_ok_weaker c.cut_value.result (λ cut told apart whole. to-held file k one.0 one.1
     (λ held. 1024 * held.number + 1024 ≤ old.layout.initialized → ChangesValue old new held.number i (λ was. bytes)) (λ low.
-    let puts : PutsInValue old mid one.0.number i 0 bytes = of-held file k one.0 one.1 (λ held. 1024 * held.number + 1024 ≤ old.layout.initialized
+    let puts : PutsInValue old mid one.0.number i 0 bytes =
+    of-held file k one.0 one.1 (λ held. 1024 * held.number + 1024 ≤ old.layout.initialized
     → PutsInValue old mid held.number i 0 bytes) (c.in_ok-put_in_value.ensures.put told apart whole) low in
     let whole_then : IsWholeFile mid between = c.in_ok-put_in_value.ensures.held told apart whole
     (to-held file k one.0 one.1 (λ held. 1024 * held.number + 1024 ≤ old.layout.initialized) low) in
@@ -153,7 +155,8 @@ returns-clause-set g c =
     let apart_then = subst IsApart (sym puts.edits.replaces.layout) apart in
     sets-value old mid new file between k i bytes one.0 one.1 one.2 c.put_in_value.ensures.same whole whole_then puts low
     (cut told_then apart_then whole_then
-    (holds-then old mid new file between k i bytes one.0 one.1 one.2 c.put_in_value.ensures.same whole whole_then puts)))) c.cut_value.ensures.cut
+    (holds-then old mid new file between k i bytes one.0 one.1 one.2 c.put_in_value.ensures.same whole whole_then puts))))
+    c.cut_value.ensures.cut
 
 pub returns-clause-held : goal.returns-clause-held
 returns-clause-held g c =
@@ -173,11 +176,13 @@ returns-clause-held g c =
     let new = view g.D.Disk b in
     on_ok_weaker c.cut_value.result (λ held told apart whole inside.
     let low = of-held file k one.0 one.1 (λ held. 1024 * held.number + 1024 ≤ old.layout.initialized) inside in
-    let puts : PutsInValue old mid one.0.number i 0 bytes = of-held file k one.0 one.1 (λ held. 1024 * held.number + 1024 ≤ old.layout.initialized
+    let puts : PutsInValue old mid one.0.number i 0 bytes =
+    of-held file k one.0 one.1 (λ held. 1024 * held.number + 1024 ≤ old.layout.initialized
     → PutsInValue old mid held.number i 0 bytes) (c.in_ok-put_in_value.ensures.put told apart whole) low in
     let whole_then : IsWholeFile mid between = c.in_ok-put_in_value.ensures.held told apart whole inside in
     held (subst IsTrue (sym puts.edits.replaces.told) told) (subst IsApart (sym puts.edits.replaces.layout) apart) whole_then
-    (low-held old mid new file between k i bytes one.0 one.1 one.2 c.put_in_value.ensures.same whole whole_then puts low)) c.cut_value.ensures.held
+    (low-held old mid new file between k i bytes one.0 one.1 one.2 c.put_in_value.ensures.same whole whole_then puts low))
+    c.cut_value.ensures.held
 
 pub returns-clause-same : goal.returns-clause-same
 returns-clause-same g c = record {
@@ -199,11 +204,13 @@ returns-clause-places g c =
     let b = c.cut_value.new.mft in
     let between = c.put_in_value.new.self in
     let other = same-number (held_of file) (held_of between) k one.0 c.put_in_value.ensures.same.records one.1 in
-    let second = subst (λ o. IfSome o (λ held. StagesOnly g.D.Disk (record_places (view g.D.Disk m).layout held.number) (stage_of g.D.Disk m)
+    let second =
+    subst (λ o. IfSome o (λ held. StagesOnly g.D.Disk (record_places (view g.D.Disk m).layout held.number) (stage_of g.D.Disk m)
     (stage_of g.D.Disk b))) other.1 c.cut_value.ensures.places in
     subst (λ o. IfSome o (λ held. StagesOnly g.D.Disk (record_places (view g.D.Disk a).layout held.number) (stage_of g.D.Disk a)
     (stage_of g.D.Disk b))) (sym one.1)
-    (staged-twice g.D.Disk a m b (view g.D.Disk a).layout (view g.D.Disk m).layout one.0.number other.0.number (ap mounted_layout first.mounted)
+    (staged-twice g.D.Disk a m b (view g.D.Disk a).layout (view g.D.Disk m).layout one.0.number other.0.number
+    (ap mounted_layout first.mounted)
     other.2 (staged-held g.D.Disk a m (view g.D.Disk a).layout one.0.number c.put_in_value.result
     (on_ok_weaker c.put_in_value.result (of-held file k one.0 one.1
     (λ held. MftStages g.D.Disk (record_places (view g.D.Disk c.args.mft.now).layout held.number) 4 c.args.mft.now c.put_in_value.new.mft))

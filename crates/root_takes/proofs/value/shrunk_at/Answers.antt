@@ -22,7 +22,8 @@ shrunk_root-requires-clause-short c =
     let value_is : Some c.in-Some.root.now ≡ value_of (attribute_in held.block i).body =
     sym (ap option_copied c.in-Some.is) ∙ c.value.ensures
     ∙ ap (λ (b : List ℕ). value_of (attribute_at b c.attr.result.at).body) (c.attr.ensures.block ∙ c.view.ensures)
-    ∙ ap (λ a. value_of (attribute_at held.block a).body) (c.attr.ensures.place ∙ ap (λ (b : List ℕ). attribute_place b i) c.view.ensures) in
+    ∙ ap (λ a. value_of (attribute_at held.block a).body)
+    (c.attr.ensures.place ∙ ap (λ (b : List ℕ). attribute_place b i) c.view.ensures) in
     short held.block (length (attributes held.block)) i (held-shape held) within c.in-Some.root.now (sym value_is)
 
 pub returns-in-Some-clause-shrunk : goal.returns-in-Some-clause-shrunk
@@ -38,7 +39,8 @@ returns-in-Some-clause-shrunk c =
     let value_is : Some c.in-Some.root.now ≡ value_of (attribute_in held.block i).body =
     sym (ap option_copied c.in-Some.is) ∙ c.value.ensures
     ∙ ap (λ (b : List ℕ). value_of (attribute_at b c.attr.result.at).body) (c.attr.ensures.block ∙ c.view.ensures)
-    ∙ ap (λ a. value_of (attribute_at held.block a).body) (c.attr.ensures.place ∙ ap (λ (b : List ℕ). attribute_place b i) c.view.ensures) in
+    ∙ ap (λ a. value_of (attribute_at held.block a).body)
+    (c.attr.ensures.place ∙ ap (λ (b : List ℕ). attribute_place b i) c.view.ensures) in
     ok-weaker c.shrunk_root.result (λ shrunk h. some-weaker shrunk (λ bytes has.
     to-held file k held at (λ held. ShrinksIn order held.block i key bytes) (record {
       root = c.in-Some.root.now;
@@ -59,10 +61,12 @@ returns-in-Some-clause-none c =
     let value_is : Some c.in-Some.root.now ≡ value_of (attribute_in held.block i).body =
     sym (ap option_copied c.in-Some.is) ∙ c.value.ensures
     ∙ ap (λ (b : List ℕ). value_of (attribute_at b c.attr.result.at).body) (c.attr.ensures.block ∙ c.view.ensures)
-    ∙ ap (λ a. value_of (attribute_at held.block a).body) (c.attr.ensures.place ∙ ap (λ (b : List ℕ). attribute_place b i) c.view.ensures) in
+    ∙ ap (λ a. value_of (attribute_at held.block a).body)
+    (c.attr.ensures.place ∙ ap (λ (b : List ℕ). attribute_place b i) c.view.ensures) in
     ok-weaker c.shrunk_root.result (λ shrunk h. none-weaker shrunk (λ not.
     to-held file k held at (λ held. CanShrinkIn order is_name_key held.block i key → ⊥) (λ can.
-    not (subst (λ root. IsHitRoot order is_name_key root key) (some_same (sym can.is ∙ sym value_is)) can.hit))) h) c.shrunk_root.ensures.none
+    not (subst (λ root. IsHitRoot order is_name_key root key) (some_same (sym can.is ∙ sym value_is)) can.hit))) h)
+    c.shrunk_root.ensures.none
 
 pub returns-in-None-clause-none : goal.returns-in-None-clause-none
 returns-in-None-clause-none c =
@@ -77,5 +81,6 @@ returns-in-None-clause-none c =
     let value_is =
     sym (ap option_copied c.in-None.is) ∙ c.value.ensures
     ∙ ap (λ (b : List ℕ). value_of (attribute_at b c.attr.result.at).body) (c.attr.ensures.block ∙ c.view.ensures)
-    ∙ ap (λ a. value_of (attribute_at held.block a).body) (c.attr.ensures.place ∙ ap (λ (b : List ℕ). attribute_place b i) c.view.ensures) in
+    ∙ ap (λ a. value_of (attribute_at held.block a).body)
+    (c.attr.ensures.place ∙ ap (λ (b : List ℕ). attribute_place b i) c.view.ensures) in
     to-held file k held at (λ held. CanShrinkIn order is_name_key held.block i key → ⊥) (λ can. none_other (value_is ∙ can.is))
