@@ -50,16 +50,8 @@ const TOLD_BY_NTFSINFO: Geometry = Geometry {
 
 #[test]
 fn reads_a_foreign_boot_sector(rt: HostRuntime) {
-    assert_eq!(rt;
-        Geometry::read(&MADE_BY_MKNTFS, 65536),
-        Ok(TOLD_BY_NTFSINFO)
-    );
-}
-
-#[test]
-fn numbers_the_test_that_fails(rt: HostRuntime) {
-    for (boot, sectors, number) in [(&MADE_BY_MKNTFS, 65534, 6), (&[0; 512], 65536, 1)] {
-        let failing = Geometry::read(boot, sectors).map_err(BootFault::number);
-        assert_eq!(rt; failing, Err(number));
-    }
+    let read = Geometry::read(&MADE_BY_MKNTFS, 65536);
+    assert_eq!(rt; read, Ok(TOLD_BY_NTFSINFO));
+    let failing = Geometry::read(&[0; 512], 65536).map_err(BootFault::number);
+    assert_eq!(rt; failing, Err(1));
 }

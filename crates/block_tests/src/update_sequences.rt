@@ -1,7 +1,5 @@
-//! Blocks under an update sequence: a record that `ntfscp` stored, an index record of `mkntfs`, and numbers as the Linux
-//! drivers count them.
+//! Blocks under an update sequence: a record that `ntfscp` stored, and numbers as the Linux drivers count them.
 use ntfs_fixup::{FixFault, seal, unseal};
-use std::test::Fail;
 use vol_bytes::{put_u16, u16_at};
 
 // The file record of a file that holds sixty times the text "0123456789", as ntfscp of ntfs-3g stored
@@ -48,34 +46,6 @@ fn opens_a_record(rt: HostRuntime) -> Result<(), FixFault> {
     Ok(())
 }
 
-// The index record of the root that mkntfs makes, by its bytes at 0x04, at 0x28, around the end of its
-// first stride, where a time stands that also stands at 0x60, and the ends of its eight strides.
-// ntfs-3g has the number 5 there after two writes.
-#[test]
-fn seals_an_index_record(rt: HostRuntime) -> Result<(), FixFault> {
-    let mut block = [0; 4096];
-    put_u16(&mut block, 0x04, 0x28);
-    put_u16(&mut block, 0x06, 9);
-    put_u16(&mut block, 0x28, 3);
-    put_u16(&mut block, 0x2A, 0x01DD);
-    for (i, byte) in [0x00, 0xB7, 0x70, 0x5B, 0x06, 0x7E].into_iter().enumerate() {
-        block[504 + i] = byte;
-    }
-    for stride in 0..8 {
-        put_u16(&mut block, 512 * stride + 510, 3);
-    }
-    unseal(&mut block)?;
-    assert_eq!(rt; u16_at(&block, 510), 0x01DD);
-    seal(&mut block);
-    unseal(&mut block)?;
-    seal(&mut block);
-    assert_eq!(rt; u16_at(&block, 0x2A), 0x01DD);
-    for at in [0x28, 510, 1022, 1534, 2046, 2558, 3070, 3582, 4094] {
-        assert_eq!(rt; number(&block, at), 5, "at {at}");
-    }
-    Ok(())
-}
-
 #[test]
 fn passes_over_two_numbers(rt: HostRuntime) -> Result<(), FixFault> {
     for (number, next) in [(0, 1), (1, 2), (0xFFFD, 0xFFFE), (0xFFFE, 1), (0xFFFF, 1)] {
@@ -86,42 +56,6 @@ fn passes_over_two_numbers(rt: HostRuntime) -> Result<(), FixFault> {
         unseal(&mut block)?;
         seal(&mut block);
         assert_eq!(rt; u16_at(&block, 0x30), next, "after {number}");
-    }
-    Ok(())
-}
-
-#[test]
-fn names_the_fault(rt: HostRuntime) {
-    let torn = Err(FixFault::Torn { stride: 1 });
-    for (at, value, answer) in [
-        (0x04, 7, Err(FixFault::Array)),
-        (0x04, 505, Err(FixFault::Array)),
-        (0x06, 2, Err(FixFault::Array)),
-        (510, 3, Err(FixFault::Torn { stride: 0 })),
-        (1022, 3, torn),
-        (1020, 3, Ok(())),
-    ] {
-        let mut block = digits_record();
-        put_u16(&mut block, at, value);
-        assert_eq!(rt; unseal(&mut block), answer, "{value} at {at}");
-    }
-    assert_eq!(rt; unseal(&mut []), Err(FixFault::Array));
-    assert_eq!(rt; unseal(&mut [0; 100]), Err(FixFault::Array));
-}
-
-#[test]
-fn fault_texts(rt: HostRuntime) -> Result<(), Fail> {
-    for (fault, text) in [
-        (
-            FixFault::Array,
-            "no update sequence array of the block's size",
-        ),
-        (
-            FixFault::Torn { stride: 7 },
-            "stride 7 was not written with its block",
-        ),
-    ] {
-        assert_eq!(rt; format!(in rt.alloc(); "{fault}")?.as_str(), text);
     }
     Ok(())
 }

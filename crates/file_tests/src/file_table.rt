@@ -2,21 +2,14 @@
 //! what `ntfsinfo -v` tells of them. Its clusters have one sector, so that each record lies in two clusters; its table
 //! is moved apart in the middle of record 11.
 ghost use Rattle.std.specs.Prelude.{◌≡◌, ◌<◌, ◌^◌, IfOk, length};
-ghost use Rattle.vol_stage.specs.Staged.{disk_of};
-ghost use Rattle.mft_table.specs.Mounted.{StandsOn};
-
-mod streams;
-mod taken;
-mod written;
 
 use crate::laid::mount;
 use attr_view::RecordView;
-use mft_table::{Mft, MftNo, Mounted, TableNo, find_table};
+use mft_table::{Mft, MftNo};
 use std::alloc::{AllocError, Global};
 use std::test;
-use upcase::UpCase;
 use vol_bytes::{u16_at, u32_at};
-use vol_disk::{CallKind, Disk, Fail, FailDisk, MemDisk};
+use vol_disk::{Disk, MemDisk};
 use vol_stage::Stage;
 
 const CLUSTERS: usize = 4095;
@@ -200,30 +193,6 @@ fn read<D: Disk>(
     }
 }
 
-// Reads the first sector through tables that are found anew.
-fn read_boot<D: Disk>(
-    alloc: Global,
-    disk: &mut D,
-    into: &mut [u8; 512],
-) -> Result<Result<(), MftNo>, test::Fail>
-    requires { 0 < D.size disk.old }
-{
-    let mut stage = Stage::over(alloc, disk);
-    match mount(alloc, &mut stage) {
-        Ok(mounted) => {
-            let mut mft = Mft::resume(stage, mounted);
-            let done = mft.read_sector(0, into);
-            let (stage, _) = mft.into_parts();
-            let _ = stage.finish();
-            Ok(done)
-        }
-        Err(fail) => {
-            let _ = stage.finish();
-            Err(fail)
-        }
-    }
-}
-
 // A record: its number, its sequence number, flags, bytes used, next attribute id, attributes, and the ends of its sectors.
 type Told = (u64, u16, u16, u32, u16, usize, [u8; 2]);
 
@@ -256,46 +225,5 @@ fn reads_records(rt: HostRuntime) -> Result<(), test::Fail> {
     for row in TOLD {
         assert!(rt; told(rt.alloc(), &mut disk, row.0)? == row, "{}", row.0);
     }
-    Ok(())
-}
-
-// One that does not open, and one behind the table.
-#[test]
-fn tells_what_is_no_record(rt: HostRuntime) -> Result<(), test::Fail> {
-    let mut disk = MemDisk::new(rt.alloc(), volume(rt.alloc())?);
-    let mut block = [1; 1024];
-    for (number, wanted) in [(1, Some(Err(MftNo::Torn { number: 1 }))), (27, None)] {
-        let done = read(rt.alloc(), &mut disk, number, &mut block)?;
-        assert_eq!(rt; done, wanted);
-    }
-    Ok(())
-}
-
-#[test]
-fn a_disk_that_fails_keeps_the_block(rt: HostRuntime) -> Result<(), test::Fail> {
-    for number in [4, 5] {
-        let fail = Fail {
-            kind: CallKind::Read,
-            number,
-            lands: false,
-        };
-        let inner = MemDisk::new(rt.alloc(), volume(rt.alloc())?);
-        let mut disk = FailDisk::new(inner, vec![in rt.alloc(); fail]?);
-        let mut block = [1; 1024];
-        let done = read(rt.alloc(), &mut disk, 3, &mut block)?;
-        assert!(rt;
-            done == Some(Err(MftNo::Device)) && block == [1; 1024],
-            "{number}"
-        );
-    }
-    Ok(())
-}
-
-#[test]
-fn reads_a_sector(rt: HostRuntime) -> Result<(), test::Fail> {
-    let mut disk = MemDisk::new(rt.alloc(), volume(rt.alloc())?);
-    let mut sector = [1; 512];
-    let done = read_boot(rt.alloc(), &mut disk, &mut sector)?;
-    assert!(rt; done == Ok(()) && sector.starts_with(&BOOT));
     Ok(())
 }

@@ -20,5 +20,3 @@ mod parents;
 mod records_in_use;
 #[cfg(test)]
 mod stream_parts;
-#[cfg(test)]
-mod values;

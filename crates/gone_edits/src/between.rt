@@ -8,12 +8,13 @@ ghost use Rattle.mft_table.specs.FreeRecords.{FreesBlock};
 ghost use Rattle.tree_model.specs.declared.tree.Node.{Node};
 ghost use Rattle.edit_def.specs.Marks.{AreRight};
 ghost use Rattle.record_calls.specs.Marks.{marks_of};
-ghost use Rattle.gone_edits.specs.Between.{HasExited, HasNoName, IsFreed};
+ghost use Rattle.gone_edits.specs.Between.{HasExited, HasNoName, IsFreed, KeepsRows};
 ghost use Rattle.gone_edits.specs.Exits.{ExitsIndex};
 ghost use Rattle.gone_edits.specs.Goes.{CanGo, QuitsName};
 
 /// Where a file may go, with the bits in memory right, the volume stands as between two calls: where the entry of its name has gone out of
-/// the index (`exited`), where its name has gone out of its record behind that (`unnamed`), and where its record was freed then (`freed`).
+/// the index (`exited`), where its name has gone out of its record behind that (`unnamed`), and where its record was freed then (`freed`);
+/// and there the bitmap of records is found as it was, to clear its flag (`rows`).
 pub fn between_gone()
     ensures exited { (old left : VolumeView) (was : Mounted) (n dir : ℕ) (file parent : Node) (name : FileName) (key : List ℕ)
         → CanGo old n dir file parent name → AreRight old (marks_of was) → ExitsIndex old left dir key
@@ -24,4 +25,8 @@ pub fn between_gone()
     ensures freed { (old left counted freed : VolumeView) (was now : Mounted) (n dir : ℕ) (file parent : Node) (name : FileName)
         (key : List ℕ) → CanGo old n dir file parent name → AreRight old (marks_of was) → ExitsIndex old left dir key
         → QuitsName left counted n → FreesBlock counted freed n → now ≡ with_record_given was n → IsFreed freed (marks_of now) n }
+    ensures rows { (old left counted freed : VolumeView) (was now : Mounted) (n dir : ℕ) (file parent : Node) (name : FileName)
+        (key : List ℕ) → CanGo old n dir file parent name → AreRight old (marks_of was) → ExitsIndex old left dir key
+        → QuitsName left counted n → FreesBlock counted freed n → now ≡ with_record_given was n
+        → KeepsRows old counted freed now n }
 {}

@@ -19,8 +19,12 @@ use tree_model::No;
 use upcase::UpCase;
 use vol_disk::Disk;
 
-// The table of case once more.
-fn share(upcase: &UpCase) -> Result<UpCase, Stop>
+/// The table of case once more.
+///
+/// # Errors
+///
+/// `Memory` alone.
+pub fn share(upcase: &UpCase) -> Result<UpCase, Stop>
     ensures same { IfOk result (λ shared. shared ≡ upcase.now) }
     ensures memory { IfErr result (λ why. why ≡ stop.No no.Memory) }
 {
@@ -30,8 +34,12 @@ fn share(upcase: &UpCase) -> Result<UpCase, Stop>
     }
 }
 
-// The key of a name of a file as it would be in a directory of reference 0, at the moment 0: its length and its units are used alone.
-fn key_of(alloc: Global, name: &[u16]) -> Result<Vec<u8>, Stop>
+/// The key of a name of a file as it would be in a directory of reference 0, at the moment 0: its length and its units are used alone.
+///
+/// # Errors
+///
+/// `Memory` alone.
+pub fn name_key(alloc: Global, name: &[u16]) -> Result<Vec<u8>, Stop>
     requires some { 1 ≤ length name.now }
     requires few { length name.now ≤ 255 }
     ensures key { IfOk result (λ key. IsPlainKey false 0 name.now 0 key.items) }
@@ -69,7 +77,7 @@ pub fn has_name_room<D: Disk>(
     requires few { length name.now ≤ 255 }
     ensures { Finds D.Disk mft.old mft.new (λ volume room. room ≡ has_name_room volume (number_of dir.now) name.now) result }
 {
-    let key = key_of(alloc, name)?;
+    let key = name_key(alloc, name)?;
     let upcase = share(&mft.mounted().upcase)?;
     let len = entry_bytes(key.len());
     if has_root_room(&dir.parts, len) {

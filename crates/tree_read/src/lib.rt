@@ -21,10 +21,10 @@ pub use data::{find_plain, is_of_directory, name_or, plain_content, read_through
 pub use dir_index::lookup_in;
 pub use file_record::{BaseFile, FileParts, Held};
 pub use load::{load_file, load_node};
-pub use node::{Standard, find_part, read_standard};
-pub use outline::links_of;
+pub use node::{Standard, find_part, is_directory, read_standard};
+pub use outline::{has_point, links_of};
 pub use room::{df, free_records};
 pub use shown::{Shown, show_at};
 pub use standing::Standing;
 pub use stop::Stop;
-pub use walk::{Reached, enter, resolve};
+pub use walk::{Reached, enter, reach, resolve};

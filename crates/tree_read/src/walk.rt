@@ -102,8 +102,12 @@ fn pass<D: Disk>(
     Ok(passed_below(below)?)
 }
 
-// The last component.
-fn reach<D: Disk>(
+/// What the last name of a path leads to, in the directory that the others lead to: anything that is shown.
+///
+/// # Errors
+///
+/// `NotFound`, `Hidden` and `Memory`. `Device` where the disk failed.
+pub fn reach<D: Disk>(
     alloc: Global,
     mft: &mut Mft<'_, D>,
     dir: &BaseFile,
