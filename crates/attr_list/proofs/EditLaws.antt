@@ -5,7 +5,8 @@ use Rattle.attr_list.specs.Edit.{HasEntryBytes, Inserts, IsPlaceFor, Removes}
 use Rattle.attr_list.specs.declared.Entry.{Entry}
 use Rattle.attr_list.proofs.ListEntryLaws.{length-list_entries}
 use Rattle.attr_list.proofs.LeftLaws.{entries_left-more, entries_left-none}
-use Rattle.attr_list.proofs.SplicedLists.{HasListShape-append, HasListShape-drop, HasListShape-take, list_entries-append, list_entries-drop, list_entries-take}
+use Rattle.attr_list.proofs.SplicedLists.{HasListShape-append, HasListShape-drop, HasListShape-take}
+use Rattle.attr_list.proofs.SplicedLists.{list_entries-append, list_entries-drop, list_entries-take}
 
 -- a list has as many entries as its shape says
 own_shape : (value : List ℕ) (count : ℕ) → HasListShape value count → HasListShape value (length (list_entries value))
@@ -30,9 +31,11 @@ module _ (i : ℕ) (old : List ℕ) (shape : HasListShape old (length (list_entr
         bytes = bytes;
         entries = ap list_entries bytes
             ∙ list_entries-append _ _ i (all - (i + 1)) front back
-            ∙ ap (λ xs. xs ++ list_entries (drop (list_entry_place old (i + 1)) old)) (list_entries-take old all i (all - i) shape (omega arith))
+            ∙ ap (λ xs. xs ++ list_entries (drop (list_entry_place old (i + 1)) old))
+            (list_entries-take old all i (all - i) shape (omega arith))
             ∙ ap (λ xs. take i (list_entries old) ++ xs) (list_entries-drop old all (i + 1) (all - (i + 1)) shape (omega arith));
-        shape = own_shape new (all - (i + 1) + i) (subst (λ v. HasListShape v (all - (i + 1) + i)) (sym bytes) (HasListShape-append _ _ i (all - (i + 1)) front back));
+        shape = own_shape new (all - (i + 1) + i)
+            (subst (λ v. HasListShape v (all - (i + 1) + i)) (sym bytes) (HasListShape-append _ _ i (all - (i + 1)) front back));
       }
 
   module _ (entry : Entry) (made : List ℕ) (made_of : HasEntryBytes entry made) where
@@ -43,7 +46,8 @@ module _ (i : ℕ) (old : List ℕ) (shape : HasListShape old (length (list_entr
     }
 
     single : list_entries made ≡ list_entry_at made 0 ∷ []
-    single = entries_left-more made 1 0 0 one (omega arith) refl ∙ ap (λ xs. list_entry_at made 0 ∷ xs) (entries_left-none made 1 1 one refl)
+    single = entries_left-more made 1 0 0 one (omega arith) refl
+        ∙ ap (λ xs. list_entry_at made 0 ∷ xs) (entries_left-none made 1 1 one refl)
 
     pub Inserts-put : (fold : ℕ → ℕ) (new : List ℕ) (at : ℕ) → IsPlaceFor fold (list_entries old) (list_entry_at made 0) i
         → at ≡ list_entry_place old i → new ≡ take at old ++ (made ++ drop at old) → Inserts fold entry old new

@@ -21,7 +21,8 @@ left-more value count next at shape inside place =
     ∙ ap (option_map (λ entry. entry.holder)) (slice_get-list_entries value count next shape inside)
     ∙ ap (λ (p : ℕ). Some (reference_in (listed_holder value p))) (sym place) in
     drop_more (holders_in value) next (reference_in (listed_holder value at)) (slice_get_within (holders_in value) next _ read)
-    ∙ ap (λ x. x ∷ drop (next + 1) (holders_in value)) (get_or_from_slice_get (holders_in value) next _ (reference_in (listed_holder value at)) read)
+    ∙ ap (λ x. x ∷ drop (next + 1) (holders_in value))
+    (get_or_from_slice_get (holders_in value) next _ (reference_in (listed_holder value at)) read)
 
 -- behind the last one there is none
 pub left-none : (value : List ℕ) (count next : ℕ) → HasListShape value count → next ≡ count → drop next (holders_in value) ≡ []

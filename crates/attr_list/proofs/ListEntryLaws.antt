@@ -3,7 +3,8 @@ use Rattle.std.proofs.Common.{◌≡◌, ℕ, zero, suc, ◌+◌, ◌<◌, ◌�
 use Rattle.std.proofs.Common.{ap, subst, arith, sym, ◌∙◌, add-zero, inl, inr, ◌⊎◌, ◌*◌, below_more}
 use Rattle.std.proofs.lemmas.Bool.{cases_eq, cases_lt, cases_order}
 use Rattle.std.proofs.lemmas.Bool.Decides.{nat_tests}
-use Rattle.ntfs_def.specs.AttributeList.{HasListEntries, HasListShape, IsFirstBadEntry, IsListEntry, list_entries, list_entries_from, list_entry_at, list_entry_place, listed_len, listed_name_offset, listed_units}
+use Rattle.ntfs_def.specs.AttributeList.{HasListEntries, HasListShape, IsFirstBadEntry, IsListEntry, list_entries, list_entries_from}
+use Rattle.ntfs_def.specs.AttributeList.{list_entry_at, list_entry_place, listed_len, listed_name_offset, listed_units}
 
 -- an entry has 26 bytes at least
 pub IsListEntry-long : (value : List ℕ) (at : ℕ) → IsListEntry value at → 26 ≤ listed_len value at

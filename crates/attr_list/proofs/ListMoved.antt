@@ -1,5 +1,6 @@
 -- An entry that stands elsewhere, or in another list, is the same entry.
-use Rattle.std.proofs.Common.{◌≡◌, ℕ, ◌+◌, ◌-◌, ◌*◌, ◌<◌, ◌≤◌, List, length, get_or, drop, ap, sym, ◌∙◌, arith, length-drop, length-take, get_or-drop, get_or-take}
+use Rattle.std.proofs.Common.{◌≡◌, ℕ, ◌+◌, ◌-◌, ◌*◌, ◌<◌, ◌≤◌, List, length, get_or, drop, ap, sym, ◌∙◌, arith, length-drop}
+use Rattle.std.proofs.Common.{length-take, get_or-drop, get_or-take}
 use Rattle.std.proofs.lemmas.Grind.{same_number_lists}
 use Rattle.std.specs.Prelude.{slice_range}
 use Rattle.vol_bytes.specs.Field.{u16_at, u64_at}
@@ -64,7 +65,8 @@ module _ (a b : List ℕ) (from to : ℕ) (w : IsListEntry a from) (m : IsMoved 
   name : listed_name b to ≡ listed_name a from
   name =
       ap (λ n. slice_range b (to + 0x1A) (to + 0x1A + 2 * n)) units
-      ∙ range-moved a b from to _ (from + 0x1A) (to + 0x1A) (2 * listed_units a from) m (omega arith) (omega (arith, w.name_inside)) (omega arith)
+      ∙ range-moved a b from to _ (from + 0x1A) (to + 0x1A) (2 * listed_units a from) m (omega arith)
+      (omega (arith, w.name_inside)) (omega arith)
 
   pub listed_len-moved : listed_len b to ≡ listed_len a from
   listed_len-moved = len

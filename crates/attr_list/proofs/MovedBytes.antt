@@ -1,5 +1,6 @@
 -- Bytes of a list that were moved up, or down.
-use Rattle.std.proofs.Common.{◌≡◌, ℕ, ◌+◌, ◌-◌, ◌≤◌, List, [], ◌++◌, length, take, drop, refl, ap, ◌∙◌, arith, length-append, length-drop, append-nil}
+use Rattle.std.proofs.Common.{◌≡◌, ℕ, ◌+◌, ◌-◌, ◌≤◌, List, [], ◌++◌, length, take, drop, refl, ap, ◌∙◌, arith}
+use Rattle.std.proofs.Common.{length-append, length-drop, append-nil}
 use Rattle.std.proofs.lemmas.List.{take_at, drop_at, take_all, drop_all, drop-append-le, take-append-le, length-take-le}
 
 -- what a write through `&mut list[place..]` leaves that brings the last bytes to the place
@@ -21,18 +22,29 @@ rotated old made xs ys items place m n all same inside many long turned =
     ap (λ zs. length zs - m) mid ∙ omega (arith, length-append (drop place old) made) in
     let part : ys ≡ made ++ drop place old =
     turned
-    ∙ ap (λ zs. drop (length (take (length xs - place) (drop place xs)) - m) zs ++ take (length (take (length xs - place) (drop place xs)) - m) zs) mid
+    ∙ ap (λ zs. drop (length (take (length xs - place) (drop place xs)) - m) zs
+    ++ take (length (take (length xs - place) (drop place xs)) - m) zs) mid
     ∙ ap (λ k. drop k (drop place old ++ made) ++ take k (drop place old ++ made)) count
-    ∙ ap (λ zs. zs ++ take (length (drop place old)) (drop place old ++ made)) (drop_at (drop place old) made (length (drop place old)) refl)
+    ∙ ap (λ zs. zs ++ take (length (drop place old)) (drop place old ++ made))
+    (drop_at (drop place old) made (length (drop place old)) refl)
     ∙ ap (λ zs. made ++ zs) (take_at (drop place old) made (length (drop place old)) refl) in
-    let none : drop (length xs - place) (drop place xs) ≡ [] = drop_all (length xs - place) (drop place xs) (omega (arith, length-drop place xs)) in
+    let none : drop (length xs - place) (drop place xs) ≡ [] =
+    drop_all (length xs - place) (drop place xs) (omega (arith, length-drop place xs)) in
     let whole : take place xs ++ (ys ++ drop (length xs - place) (drop place xs)) ≡ take place old ++ (made ++ drop place old) =
     ap (λ zs. take place zs ++ (ys ++ drop (length xs - place) (drop place xs))) is
     ∙ ap (λ zs. zs ++ (ys ++ drop (length xs - place) (drop place xs))) (take-append-le place old made inside)
     ∙ ap (λ zs. take place old ++ (ys ++ zs)) none
     ∙ ap (λ zs. take place old ++ zs) (append-nil ys ∙ part) in
     let sum : length (take place old ++ (made ++ drop place old)) ≡ n =
-    omega (arith, length-append (take place old) (made ++ drop place old), length-append made (drop place old), length-take-le place old inside, back, size, long) in
+    omega (
+      arith,
+      length-append (take place old) (made ++ drop place old),
+      length-append made (drop place old),
+      length-take-le place old inside,
+      back,
+      size,
+      long,
+    ) in
     take_at _ _ n (ap length whole ∙ sum) ∙ whole
 
 -- what is left where the bytes behind a part were moved to its place, and the end cut

@@ -1,5 +1,6 @@
 -- The place of a new entry: what a walk has passed, and that a list in order stays so.
-use Rattle.std.proofs.Common.{◌≡◌, ℕ, suc, ◌+◌, ◌-◌, ◌<◌, ◌≤◌, List, ◌∷◌, ◌++◌, true, false, IfSome, Some, length, take, drop, get_or, refl, inl, inr, ap, subst, sym, ◌∙◌, arith, length-append, length-drop, get_or-drop, get_or-take, Ordering}
+use Rattle.std.proofs.Common.{◌≡◌, ℕ, suc, ◌+◌, ◌-◌, ◌<◌, ◌≤◌, List, ◌∷◌, ◌++◌, true, false, IfSome, Some, length, take, drop, get_or, refl}
+use Rattle.std.proofs.Common.{inl, inr, ap, subst, sym, ◌∙◌, arith, length-append, length-drop, get_or-drop, get_or-take, Ordering}
 use Rattle.std.specs.List.{All}
 use Rattle.std.specs.Ordering.{is_gt, is_le, ordering_reverse}
 use Rattle.std.specs.declared.cmp.Ordering.TheVariants.{Less, Equal, Greater}
@@ -57,7 +58,8 @@ module _ (fold : ℕ → ℕ) (list : List ℕ) (entry : ListEntry) (shape : Has
               ∙ ap (list_entry_place list) (let e : suc passed.i ≡ passed.i + 1 = omega arith in e);
           within = omega (arith, lt);
           before = All-more (λ other. is_le (entry_order fold other entry) ≡ true) (list_entries list) passed.i entry lt passed.before
-              (subst (λ other. is_le (entry_order fold other entry) ≡ true) this (le_or_gt (entry_order fold (list_entry_at list at) entry) less));
+              (subst (λ other. is_le (entry_order fold other entry) ≡ true) this
+              (le_or_gt (entry_order fold (list_entry_at list at) entry) less));
         }
 
     pub place-here : is_gt (entry_order fold (list_entry_at list at) entry) ≡ true → (at ≡ length list → ⊥)
@@ -76,7 +78,8 @@ module _ (fold : ℕ → ℕ) (list : List ℕ) (entry : ListEntry) (shape : Has
     place-end end = record {
       within = passed.within;
       before = passed.before;
-      behind = subst (λ found. IfSome found (λ other. is_gt (entry_order fold other entry) ≡ true)) (sym (slice_get_past (list_entries list) passed.i at-end)) tt;
+      behind = subst (λ found. IfSome found (λ other. is_gt (entry_order fold other entry) ≡ true))
+          (sym (slice_get_past (list_entries list) passed.i at-end)) tt;
     }
       where
         at-end : length (list_entries list) ≤ passed.i
@@ -111,7 +114,8 @@ module _ (fold : ℕ → ℕ) (entries : List ListEntry) (ordered : AreInOrder f
 
     greater : (d : ListEntry) → i < length entries → below entry (get_or entries i d)
     greater d lt = turned _ _ ((entry_total fold).antisymm entry (get_or entries i d))
-        (subst (λ found. IfSome found (λ other. is_gt (entry_order fold other entry) ≡ true)) (slice_get-get_or entries i d lt) place.behind)
+        (subst (λ found. IfSome found (λ other. is_gt (entry_order fold other entry) ≡ true))
+        (slice_get-get_or entries i d lt) place.behind)
 
     not-below : (j : ℕ) (d : ListEntry) → i ≤ j → j < length entries → below entry (get_or entries j d)
     not-below j d le lt = elim (cases_lt i j) [
@@ -124,7 +128,13 @@ module _ (fold : ℕ → ℕ) (entries : List ListEntry) (ordered : AreInOrder f
 
     length-new : length new ≡ length entries + 1
     unfolding new
-    length-new = omega (arith, length-append (take i entries) (entry ∷ drop i entries), length-take-le i entries place.within, length-drop i entries, place.within)
+    length-new = omega (
+      arith,
+      length-append (take i entries) (entry ∷ drop i entries),
+      length-take-le i entries place.within,
+      length-drop i entries,
+      place.within,
+    )
 
     at-before : (j : ℕ) (d : ListEntry) → j < i → get_or new j d ≡ get_or entries j d
     unfolding new
@@ -155,7 +165,8 @@ module _ (fold : ℕ → ℕ) (entries : List ListEntry) (ordered : AreInOrder f
           | inl is ↦ subst (λ x. below x (get_or new k d)) (sym (at-before j d first))
               (subst (λ y. below (get_or entries j d) y) (sym (at-here k d is)) (not-above j d first))
           | inr isnt ↦ subst (λ x. below x (get_or new k d)) (sym (at-before j d first))
-              (subst (λ y. below (get_or entries j d) y) (sym (at-behind k d (omega arith))) (ordered j (k - 1) d (omega arith) (omega arith)))
+              (subst (λ y. below (get_or entries j d) y) (sym (at-behind k d (omega arith)))
+              (ordered j (k - 1) d (omega arith) (omega arith)))
         ]
       ]
       | inr later ↦ elim (cases_eq j i) [
@@ -178,7 +189,12 @@ module _ (fold : ℕ → ℕ) (entries : List ListEntry) (ordered : AreInOrder f
 
     length-rest : length rest + 1 ≡ length entries
     unfolding rest
-    length-rest = omega (arith, length-append (take i entries) (drop (i + 1) entries), length-take-le i entries (omega arith), length-drop (i + 1) entries)
+    length-rest = omega (
+      arith,
+      length-append (take i entries) (drop (i + 1) entries),
+      length-take-le i entries (omega arith),
+      length-drop (i + 1) entries,
+    )
 
     -- where element j stood
     at-rest : (j : ℕ) (d : ListEntry) → (s : ℕ) × (get_or rest j d ≡ get_or entries s d) × ((j < i → s ≡ j) × (i ≤ j → s ≡ j + 1))

@@ -1,5 +1,6 @@
 -- Lists one behind the other, and parts of a list: their shape, and their entries.
-use Rattle.std.proofs.Common.{◌≡◌, ℕ, zero, suc, ◌+◌, ◌-◌, ◌<◌, ◌≤◌, List, ◌++◌, length, take, drop, get_or, refl, inl, inr, ap, subst, sym, ◌∙◌, arith, length-append, length-drop, get_or-drop, get_or-take}
+use Rattle.std.proofs.Common.{◌≡◌, ℕ, zero, suc, ◌+◌, ◌-◌, ◌<◌, ◌≤◌, List, ◌++◌, length, take, drop, get_or, refl, inl, inr, ap, subst, sym}
+use Rattle.std.proofs.Common.{◌∙◌, arith, length-append, length-drop, get_or-drop, get_or-take}
 use Rattle.std.proofs.lemmas.List.{same_lists, length-take-le, get_or_append_left, get_or-append_right}
 use Rattle.std.proofs.lemmas.Option.{get_or_from_slice_get}
 use Rattle.std.proofs.lemmas.Bool.{cases_lt}
@@ -232,4 +233,5 @@ module _ (a : List ℕ) (count i rest : ℕ) (shape : HasListShape a count) (spl
       ∙ subst (λ q. list_entry_at (drop q a) (list_entry_place (drop q a) j) ≡ list_entry_at a (list_entry_place a (j + i))) p-is
       (subst (λ k. list_entry_at (drop p a) (list_entry_place (drop p a) k) ≡ list_entry_at a (list_entry_place a (j + i))) is
       (at-same a (drop p a) i 0 rest each-back m-back j low))
-      ∙ sym (get_or-drop i (list_entries a) j d ∙ ap (λ k. get_or (list_entries a) k d) turn ∙ entry_of a count (j + i) d shape (omega arith)))
+      ∙ sym (get_or-drop i (list_entries a) j d ∙ ap (λ k. get_or (list_entries a) k d) turn
+      ∙ entry_of a count (j + i) d shape (omega arith)))

@@ -1,5 +1,6 @@
 -- The attributes of a file that is held beside its parts, one by one.
-use Rattle.std.proofs.Common.{◌≡◌, ◌&&◌, ◌+◌, ℕ, zero, suc, Bool, true, false, cond, List, [], ◌∷◌, ◌++◌, length, map, drop, Some, refl, sym, ap, subst, ◌∙◌, arith}
+use Rattle.std.proofs.Common.{◌≡◌, ◌&&◌, ◌+◌, ℕ, zero, suc, Bool, true, false, cond, List, [], ◌∷◌, ◌++◌, length, map, drop, Some, refl}
+use Rattle.std.proofs.Common.{sym, ap, subst, ◌∙◌, arith}
 use Rattle.std.specs.Prelude.{filter, find, slice_get}
 use Rattle.std.specs.List.{flat_map}
 use Rattle.std.proofs.lemmas.List.{drop_all}
@@ -19,7 +20,8 @@ AreHeld [] (p ∷ ps) = ⊥
 AreHeld (a ∷ items) [] = ⊥
 AreHeld (a ∷ items) (p ∷ ps) = ((n : ℕ) × (p ≡ part_of n a)) × AreHeld items ps
 
-held-record : (n : ℕ) (items more : List Attribute) (ps : List Part) → AreHeld more ps → AreHeld (items ++ more) (map (part_of n) items ++ ps)
+held-record : (n : ℕ) (items more : List Attribute) (ps : List Part) → AreHeld more ps
+    → AreHeld (items ++ more) (map (part_of n) items ++ ps)
 held-record n [] more ps h = h
 held-record n (a ∷ items) more ps h = ((n, refl), held-record n items more ps h)
 
@@ -36,7 +38,8 @@ drop-nil xs k e = drop_all k xs (omega (arith, ap length e))
 
 -- the attribute at a place, and the part there
 pub AreHeld-at : (k : ℕ) (items : List Attribute) (ps : List Part) (a : Attribute) (rest : List Attribute) → AreHeld items ps
-    → drop k items ≡ a ∷ rest → (n : ℕ) × (slice_get ps k ≡ Some (part_of n a)) × (drop k ps ≡ part_of n a ∷ drop (k + 1) ps) × (drop (k + 1) items ≡ rest)
+    → drop k items ≡ a ∷ rest → (n : ℕ) × (slice_get ps k ≡ Some (part_of n a)) × (drop k ps ≡ part_of n a ∷ drop (k + 1) ps)
+    × (drop (k + 1) items ≡ rest)
 AreHeld-at k [] [] a rest h e = let none : [] ≡ a ∷ rest = sym (drop-nil [] k refl) ∙ e in absurd (cc)
 AreHeld-at k [] (p ∷ ps) a rest h e = absurd h
 AreHeld-at k (b ∷ items) [] a rest h e = absurd h

@@ -1,5 +1,6 @@
 -- Bytes that were put into a stream, one piece behind the other.
-use Rattle.std.proofs.Common.{◌≡◌, ◌+◌, ◌-◌, ◌*◌, ◌/◌, ◌%◌, ◌<◌, ◌≤◌, ℕ, List, [], ◌∷◌, ◌++◌, length, Some, refl, sym, ap, subst, ◌∙◌, arith, append_assoc, append-nil, length-append}
+use Rattle.std.proofs.Common.{◌≡◌, ◌+◌, ◌-◌, ◌*◌, ◌/◌, ◌%◌, ◌<◌, ◌≤◌, ℕ, List, [], ◌∷◌, ◌++◌, length, Some, refl, sym, ap, subst, ◌∙◌}
+use Rattle.std.proofs.Common.{arith, append_assoc, append-nil, length-append}
 use Rattle.std.proofs.Math.Nat.{le-mul_of_pos_right}
 use Rattle.vol_disk.specs.declared.Disk.{Ghosts}
 use Rattle.vol_stage.specs.Staged.{disk_of}
@@ -18,7 +19,8 @@ IsDone old new spot at all rest count = (done : List ℕ) × (all ≡ done ++ re
 
 -- a piece more
 pub done-then : (a b c : VolumeView) (spot : ℕ → Spot) (at mid : ℕ) (all rest here behind : List ℕ) (count next : ℕ) → rest ≡ here ++ behind
-    → mid ≡ at + count → next ≡ count + length here → IsDone a b spot at all rest count → WritesStream b c spot mid here → IsDone a c spot at all behind next
+    → mid ≡ at + count → next ≡ count + length here → IsDone a b spot at all rest count → WritesStream b c spot mid here
+    → IsDone a c spot at all behind next
 done-then a b c spot at mid all rest here behind count next split from more (done, is, len, written) then = (
   done ++ here,
   is ∙ ap (λ xs. done ++ xs) split ∙ sym (append_assoc done here behind),

@@ -1,5 +1,6 @@
 -- Where the sectors of a stream lie, run by run.
-use Rattle.std.proofs.Common.{◌≡◌, ◌+◌, ◌-◌, ◌*◌, ◌/◌, ◌%◌, ◌<◌, ◌≤◌, ℕ, List, [], ◌∷◌, leb, true, length, Option, Some, None, refl, sym, ap, subst, ◌∙◌, arith}
+use Rattle.std.proofs.Common.{◌≡◌, ◌+◌, ◌-◌, ◌*◌, ◌/◌, ◌%◌, ◌<◌, ◌≤◌, ℕ, List, [], ◌∷◌, leb, true, length, Option, Some, None, refl, sym}
+use Rattle.std.proofs.Common.{ap, subst, ◌∙◌, arith}
 use Rattle.std.specs.Prelude.{Contains, min, option_to_list, unwrap_or}
 use Rattle.std.specs.List.{flat_map, range_with_len}
 use Rattle.std.proofs.Math.Nat.{mul-add-div_right, mul-add-mod_self_right, mul_assoc, mul_comm, add-mul}
@@ -35,7 +36,8 @@ run-place layout spot at lcn len j some whole lies within =
     let v = at / (512 * per) in
     let m = at % (512 * per) in
     let r = m / 512 + j in
-    let turned : (n : ℕ) → n * (512 * per) ≡ 512 * (n * per) = λ n. sym (mul_assoc n 512 per) ∙ ap (λ x. x * per) (mul_comm n 512) ∙ mul_assoc 512 n per in
+    let turned : (n : ℕ) → n * (512 * per) ≡ 512 * (n * per) =
+    λ n. sym (mul_assoc n 512 per) ∙ ap (λ x. x * per) (mul_comm n 512) ∙ mul_assoc 512 n per in
     let all = div-add-mod' at (512 * per) in
     let place : at / 512 + j ≡ v * per + r = omega (arith, all, turned v) in
     let q : (at / 512 + j) / per ≡ v + r / per = ap (λ n. n / per) place ∙ mul-add-div_right some v r in
@@ -65,7 +67,8 @@ found-run size f n extents a vcn k extent text run s body among first last is lt
     let within : is_within (vcn + k) (Some extent) ≡ true =
     and_from (leb extent.sizes.first (vcn + k)) (leb (vcn + k) extent.sizes.last)
     (le-leb extent.sizes.first (vcn + k) (omega (arith, first))) (le-leb (vcn + k) extent.sizes.last last) in
-    let spans : spans_vcn (vcn + k) (part_of n a) ≡ true = ap (λ body. is_within (vcn + k) (content_extent (content_of body))) body ∙ within in
+    let spans : spans_vcn (vcn + k) (part_of n a) ≡ true =
+    ap (λ body. is_within (vcn + k) (content_extent (content_of body))) body ∙ within in
     let there : vcn + k - extent.sizes.first ≡ vcn - extent.sizes.first + k = omega (arith, first) in
     sym (found-spot size f n extents a (vcn + k) extent text s body among spans)
     ∙ ap (spot_of runs) there ∙ spot_of-left runs run (vcn - extent.sizes.first) k is lt
@@ -114,7 +117,8 @@ run-named layout spot at0 len0 place n len (Some lcn) some x y z from fits lies 
     let j = s - first in
     let there = run-place layout spot place lcn len j some y lies (omega (arith, within, r.1, r.0, z)) in
     let same : first + j ≡ s = omega (arith, r.0) in
-    named-sector layout spot at0 len0 (place / 512 + j) s (omega (arith, x, y, from)) (omega (arith, x, y, z, fits, r.0, r.1)) (there ∙ ap Some same)
+    named-sector layout spot at0 len0 (place / 512 + j) s (omega (arith, x, y, from))
+    (omega (arith, x, y, z, fits, r.0, r.1)) (there ∙ ap Some same)
 
 -- the run has a place where its first cluster lies somewhere
 pub run-there : (lcn : Option ℕ) (c : ℕ) → spot_on lcn 0 ≡ At c → (first : ℕ) × (lcn ≡ Some first)

@@ -1,8 +1,10 @@
 -- Bytes of a stream in the clusters that an extent tells it holds.
-use Rattle.std.proofs.Common.{leb, ◌≡◌, ℕ, zero, suc, ◌+◌, ◌-◌, ◌*◌, ◌/◌, ◌%◌, ◌<◌, ◌≤◌, true, List, [], ◌∷◌, length, drop, ◌++◌, replicate, Some, None, inl, inr, sym, ap, subst, ◌∙◌, arith}
+use Rattle.std.proofs.Common.{leb, ◌≡◌, ℕ, zero, suc, ◌+◌, ◌-◌, ◌*◌, ◌/◌, ◌%◌, ◌<◌, ◌≤◌, true, List, [], ◌∷◌, length, drop, ◌++◌, replicate}
+use Rattle.std.proofs.Common.{Some, None, inl, inr, sym, ap, subst, ◌∙◌, arith}
 use Rattle.std.specs.Prelude.{◌==◌, find, min, unwrap_or}
 use Rattle.std.specs.List.{Contains}
-use Rattle.std.proofs.Math.Nat.{add-mul-mod_self_right, div-lt_iff_lt-mul, div-mul-le_self, le-div_iff_mul-le, mul-add-div_right, mul-le-mul_right, mul_assoc, mul_comm}
+use Rattle.std.proofs.Math.Nat.{add-mul-mod_self_right, div-lt_iff_lt-mul, div-mul-le_self, le-div_iff_mul-le, mul-add-div_right}
+use Rattle.std.proofs.Math.Nat.{mul-le-mul_right, mul_assoc, mul_comm}
 use Rattle.std.proofs.lemmas.Bool.{cases_lt, cond-false, cond-true, le-leb, ne_eqb, and_from}
 use Rattle.std.proofs.lemmas.List.{append-nil, drop_all}
 use Rattle.std.proofs.lemmas.List.Elements.{All-contains}
@@ -45,7 +47,8 @@ pub spanned-runs : (cluster : ℕ → List ℕ) (size first at n : ℕ) (text : 
     → stored_bytes cluster size (spot_of runs) (at - first * size) n ≡ stored_bytes cluster size (spot_in_text first text) at n
 unfolding stored_bytes
 spanned-runs cluster size first at n text runs some le means =
-    map_ranges (stored_byte cluster size (spot_of runs)) (stored_byte cluster size (spot_in_text first text)) (at - first * size) at n (λ j lt.
+    map_ranges (stored_byte cluster size (spot_of runs)) (stored_byte cluster size (spot_in_text first text))
+    (at - first * size) at n (λ j lt.
     moved-byte cluster size first (at - first * size + j) (at + j) (spot_of runs) some (omega arith)
     ∙ ap (λ all. stored_byte cluster size (λ vcn. spot_of (unwrap_or all []) (vcn - first)) (at + j)) (sym means))
 
@@ -80,7 +83,8 @@ pub extent-bytes : (cluster : ℕ → List ℕ) (size f at n k : ℕ) (extents :
     → stored_bytes cluster size (spot_in_text extent.sizes.first text) at n ≡ stored_bytes cluster size (spot_at extents) at n
 unfolding stored_bytes
 extent-bytes cluster size f at n k extents a extent text some s body among begins fits =
-    map_ranges (stored_byte cluster size (spot_in_text extent.sizes.first text)) (stored_byte cluster size (spot_at extents)) at at n (λ j lt.
+    map_ranges (stored_byte cluster size (spot_in_text extent.sizes.first text))
+    (stored_byte cluster size (spot_at extents)) at at n (λ j lt.
     let vcn = (at + j) / size in
     let inside : vcn < extent.sizes.last + 1 = (div-lt_iff_lt-mul some).1 (omega arith) in
     let from : at / size ≤ vcn = (le-div_iff_mul-le some).1 (omega (arith, div-mul-le_self at size)) in

@@ -1,5 +1,6 @@
 -- What is staged by calls one behind the other, and what a staged sector is to a volume.
-use Rattle.std.proofs.Common.{◌≡◌, ◌+◌, ◌*◌, ◌/◌, ◌%◌, ◌<◌, ◌≤◌, ℕ, List, [], ◌++◌, length, refl, sym, ap, subst, inl, inr, ◌∙◌, arith, length-append}
+use Rattle.std.proofs.Common.{◌≡◌, ◌+◌, ◌*◌, ◌/◌, ◌%◌, ◌<◌, ◌≤◌, ℕ, List, [], ◌++◌, length, refl, sym, ap, subst, inl, inr}
+use Rattle.std.proofs.Common.{◌∙◌, arith, length-append}
 use Rattle.std.proofs.lemmas.List.Elements.{Contains-append_left, Contains-append_right}
 use Rattle.std.specs.Prelude.{Contains, IfSome, IsTrue, Some, false, is_some}
 use Rattle.vol_disk.specs.Contents.{sector_in}
@@ -47,7 +48,8 @@ MftStages-none g named a sound = record {
   committed = refl;
 }
 
-pub MftStages-then : {D : Type 0} (g : Ghosts D) (all one : List ℕ) (m n k : ℕ) (a b c : Mft D g) → ((s : ℕ) → Contains one s → Contains all s)
+pub MftStages-then : {D : Type 0} (g : Ghosts D) (all one : List ℕ) (m n k : ℕ) (a b c : Mft D g)
+    → ((s : ℕ) → Contains one s → Contains all s)
     → m + n ≤ k → MftStages g all m a b → MftStages g one n b c → MftStages g all k a c
 MftStages-then g all one m n k a b c inside fits first second = record {
   goes_on = GoesOn-twice g (stage_of g a) (stage_of g b) (stage_of g c) first.disk first.goes_on second.goes_on;
@@ -84,7 +86,8 @@ few-staged g named a b stages =
     omega (arith, all, length-append (places g a) named)
 
 -- whichever they are
-pub AtMost : {D : Type 0} (g : Ghosts D) (one : List ℕ) (n : ℕ) (a b : Mft D g) → length one ≤ n → MftStages g one n a b → StagesAtMost g n a b
+pub AtMost : {D : Type 0} (g : Ghosts D) (one : List ℕ) (n : ℕ) (a b : Mft D g) → length one ≤ n
+    → MftStages g one n a b → StagesAtMost g n a b
 AtMost g one n a b fits stages = record {
   stages = MftStages-any g one n a b stages;
   few = omega (arith, fits, few-staged g one (stage_of g a) (stage_of g b) stages.places);
@@ -121,14 +124,16 @@ AtMost-then g m n k a b c fits one other =
     }
 
 -- behind a call that made room
-pub AtMost-reserved : {D : Type 0} (g : Ghosts D) (n : ℕ) (a b c : Mft D g) → MftReserves g a b → StagesAtMost g n b c → StagesAtMost g n a c
+pub AtMost-reserved : {D : Type 0} (g : Ghosts D) (n : ℕ) (a b c : Mft D g) → MftReserves g a b
+    → StagesAtMost g n b c → StagesAtMost g n a c
 AtMost-reserved g n a b c first second = record {
   stages = MftStages-reserved g a b first c (places g (stage_of g c)) n second.stages;
   few = omega (arith, second.few, ap length first.places);
 }
 
 -- room was made, and no more
-pub AtMost-only_reserved : {D : Type 0} (g : Ghosts D) (n : ℕ) (a b : Mft D g) → MftReserves g a b → is_mft_broken g a ≡ false → StagesAtMost g n a b
+pub AtMost-only_reserved : {D : Type 0} (g : Ghosts D) (n : ℕ) (a b : Mft D g) → MftReserves g a b
+    → is_mft_broken g a ≡ false → StagesAtMost g n a b
 AtMost-only_reserved g n a b first sound = record {
   stages = record {
     goes_on = first.goes_on;
@@ -161,5 +166,6 @@ WritesStream-put g a b spot k place count bytes puts mounted size long apart own
     λ told n lt. (sectors_told now count told long).whole n (omega (arith, lt, clusters-on_disk g a, size)) in
     let w = WritesStream-sector (is_some now) (sector_in now) (sector_in next) layout spot k place bytes apart own there
     (record { here = puts.here; others = puts.others }) whole len in
-    subst (λ tables. WritesStream (view g a) (view_of (is_some next) (sector_in next) (mounted_layout tables)) spot (512 * k) bytes) (sym mounted)
+    subst (λ tables. WritesStream (view g a) (view_of (is_some next) (sector_in next) (mounted_layout tables)) spot (512 * k) bytes)
+    (sym mounted)
     (subst (λ told. WritesStream (view g a) (view_of told (sector_in next) layout) spot (512 * k) bytes) (sym puts.told) w)

@@ -14,7 +14,8 @@ use Rattle.volume_def.specs.Readable.{IsFile, IsReadableVolume}
 use Rattle.volume_def.specs.Spans.{spans_vcn}
 use Rattle.volume_def.specs.StreamSize.{real_size}
 use Rattle.volume_def.specs.Table.{cluster_bytes}
-use Rattle.volume_def.specs.Values.{attribute_value, first_part, first_vcn_of, is_first, spot_at, spot_by, value_by, value_byte, value_of_parts, value_on, value_over}
+use Rattle.volume_def.specs.Values.{attribute_value, first_part, first_vcn_of, is_first, spot_at, spot_by, value_by, value_byte}
+use Rattle.volume_def.specs.Values.{value_of_parts, value_on, value_over}
 use Rattle.volume_def.specs.View.{VolumeView}
 use Rattle.list_laws.proofs.FindLaws.{find-found}
 use Rattle.list_laws.proofs.MemberLaws.{Contains-from_filter}
@@ -73,7 +74,8 @@ module _ (file : FileParts) (kind : ℕ) (name : List ℕ) (stored : Stored) (s 
       let in_volume = subst (λ (ps : List Part). Contains ps s.first) are.parts first-among.0 in
       let differs : s.first.kind ≢ FILE_NAME = λ e. other (sym (named kind name s.first first-among.1).0 ∙ e) in
       let stream = readable-stream view f s.first readable is_file in_volume differs in
-      subst (AreAttribute size f) first-like (subst (λ (ps : List Part). AreAttribute size f (parts_like s.first ps)) (sym are.parts) stream)
+      subst (AreAttribute size f) first-like
+      (subst (λ (ps : List Part). AreAttribute size f (parts_like s.first ps)) (sym are.parts) stream)
 
 -- Its value.
 

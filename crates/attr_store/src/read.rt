@@ -1,5 +1,6 @@
 //! Values of attributes, read.
-ghost use Rattle.std.specs.Prelude.{◌≡◌, ◌+◌, ◌-◌, ◌*◌, ◌/◌, ◌<◌, ◌≤◌, ◌^◌, ◌++◌, ℕ, IfErr, IfOk, IfSome, IsTrue, MatchResult, OnOk, drop, length, min, slice_get, slice_range};
+ghost use Rattle.std.specs.Prelude.{◌≡◌, ◌+◌, ◌-◌, ◌*◌, ◌/◌, ◌<◌, ◌≤◌, ◌^◌, ◌++◌, ℕ, IfErr, IfOk, IfSome, IsTrue, MatchResult, OnOk, drop};
+ghost use Rattle.std.specs.Prelude.{length, min, slice_get, slice_range};
 ghost use Rattle.ntfs_def.specs.Attribute.{ExtentHeader};
 ghost use Rattle.ntfs_def.specs.Runs.{spot_of};
 ghost use Rattle.volume_def.specs.ExtentsClause.{AreAttribute};

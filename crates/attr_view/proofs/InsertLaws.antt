@@ -1,5 +1,6 @@
 -- An attribute that is put into a record is a splice: no byte goes, and the bytes of the attribute come.
-use Rattle.std.proofs.Common.{◌≡◌, ℕ, ◌+◌, ◌-◌, ◌≤◌, ◌&&◌, ◌%◌, ◌==◌, List, [], ◌∷◌, ◌++◌, length, take, drop, ap, subst, sym, refl, ◌∙◌, arith}
+use Rattle.std.proofs.Common.{◌≡◌, ℕ, ◌+◌, ◌-◌, ◌≤◌, ◌&&◌, ◌%◌, ◌==◌, List, [], ◌∷◌, ◌++◌, length, take, drop, ap, subst, sym}
+use Rattle.std.proofs.Common.{refl, ◌∙◌, arith}
 use Rattle.std.specs.Prelude.{codes, nat_eq}
 use Rattle.std.specs.List.{insert, starts_with}
 use Rattle.std.proofs.lemmas.List.Edits.{length-insert}

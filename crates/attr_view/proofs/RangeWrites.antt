@@ -1,5 +1,6 @@
 -- Ranges of bytes that were written, cut or made longer.
-use Rattle.std.proofs.Common.{◌≡◌, ℕ, ◌+◌, ◌-◌, ◌<◌, ◌≤◌, List, ◌++◌, length, take, drop, replicate, get_or, inl, inr, ap, sym, refl, ◌∙◌, arith, length-append, length-drop, length-take, get_or-drop, get_or-take}
+use Rattle.std.proofs.Common.{◌≡◌, ℕ, ◌+◌, ◌-◌, ◌<◌, ◌≤◌, List, ◌++◌, length, take, drop, replicate, get_or, inl, inr, ap, sym, refl, ◌∙◌}
+use Rattle.std.proofs.Common.{arith, length-append, length-drop, length-take, get_or-drop, get_or-take}
 use Rattle.std.specs.Prelude.{slice_range}
 use Rattle.std.proofs.lemmas.Bool.{cases_lt}
 use Rattle.std.proofs.lemmas.Grind.{same_number_lists}
@@ -51,7 +52,8 @@ range-written old new from s v at inside fits x =
                 let back : at + length from + (k - at - length from) ≡ k = omega (arith, behind, high) in
                 index_within new s v k lt ∙ x.rest.above (s + k) (omega (arith, behind))
                 ∙ sym (into
-                ∙ get_or-append_right from (drop (at + length from) (slice_range old s (s + v))) (length from) (k - at) 0 refl (omega (arith, behind, high))
+                ∙ get_or-append_right from (drop (at + length from) (slice_range old s (s + v))) (length from) (k - at) 0 refl
+                (omega (arith, behind, high))
                 ∙ get_or-drop (at + length from) (slice_range old s (s + v)) (k - at - length from) 0
                 ∙ ap (λ j. get_or (slice_range old s (s + v)) j 0) back ∙ index_within old s v k lt)
           ]
@@ -90,6 +92,7 @@ range-resized old new s t v n inside there kept zeros =
           let m = length-take n (slice_range old s (s + v)) in
           let f : length (take n (slice_range old s (s + v))) ≡ v = omega (arith, m, long, high, lt) in
           index_within new t n k lt ∙ zeros k high lt
-          ∙ sym (get_or-append_right (take n (slice_range old s (s + v))) (replicate (n - length (slice_range old s (s + v))) 0) v k 0 f high
+          ∙ sym (get_or-append_right (take n (slice_range old s (s + v)))
+          (replicate (n - length (slice_range old s (s + v))) 0) v k 0 f high
           ∙ get_or-replicate {A = ℕ} (n - length (slice_range old s (s + v))) (k - v) 0 0 (omega (arith, long, high, lt)))
     ]

@@ -1,12 +1,17 @@
 -- A resident attribute that keeps its type, name, id and flags, and has another value, in as many bytes or in others.
-use Rattle.std.proofs.Common.{◌≡◌, ℕ, suc, ◌+◌, ◌-◌, ◌*◌, ◌%◌, ◌<◌, ◌≤◌, ◌==◌, Bool, true, List, [], ◌∷◌, ◌++◌, Option, Some, cond, length, take, drop, get_or, inl, inr, ap, subst, sym, refl, ◌∙◌, add-one, arith, length-drop, length-take, get_or-drop, get_or-take}
+use Rattle.std.proofs.Common.{◌≡◌, ℕ, suc, ◌+◌, ◌-◌, ◌*◌, ◌%◌, ◌<◌, ◌≤◌, ◌==◌, Bool, true, List, [], ◌∷◌, ◌++◌, Option, Some, cond, length}
+use Rattle.std.proofs.Common.{take, drop, get_or, inl, inr, ap, subst, sym, refl, ◌∙◌, add-one, arith, length-drop}
+use Rattle.std.proofs.Common.{length-take, get_or-drop, get_or-take}
 use Rattle.std.specs.Prelude.{slice_range, slice_set}
 use Rattle.std.proofs.lemmas.Bool.{cases_lt}
 use Rattle.std.proofs.lemmas.Grind.{same_number_lists}
 use Rattle.std.proofs.lemmas.List.{length-set, set_split}
 use Rattle.vol_bytes.proofs.FieldLaws.{u16_at-same, u32_at-same}
 use Rattle.ntfs_def.specs.Record.{used_size}
-use Rattle.ntfs_def.specs.Attribute.{Attribute, NonResident, Resident, attribute_at, attribute_flags, attribute_id, attribute_kind, attribute_len, attribute_place, attributes, content_bytes, content_end, content_offset, extent_at, has_compressed_len, header_len, is_resident, name_bytes, name_end, name_offset, name_units, runs_offset, value_len, value_of, value_offset}
+use Rattle.ntfs_def.specs.Attribute.{Attribute, NonResident, Resident, attribute_at, attribute_flags, attribute_id, attribute_kind}
+use Rattle.ntfs_def.specs.Attribute.{attribute_len, attribute_place, attributes, content_bytes, content_end, content_offset, extent_at}
+use Rattle.ntfs_def.specs.Attribute.{has_compressed_len, header_len, is_resident, name_bytes, name_end, name_offset, name_units}
+use Rattle.ntfs_def.specs.Attribute.{runs_offset, value_len, value_of, value_offset}
 use Rattle.ntfs_def.specs.Shape.{HasShape, IsWhole}
 use Rattle.ntfs_def.specs.Splice.{IsSpliced}
 use Rattle.ntfs_def.proofs.AttributeLaws.{length-attributes}

@@ -1,5 +1,6 @@
 -- An attribute that is taken out of a record is a splice: its bytes go, and none come.
-use Rattle.std.proofs.Common.{◌≡◌, ℕ, suc, ◌+◌, ◌-◌, ◌<◌, ◌≤◌, List, [], ◌++◌, length, take, drop, get_or, ap, subst, sym, refl, ◌∙◌, add-one, arith}
+use Rattle.std.proofs.Common.{◌≡◌, ℕ, suc, ◌+◌, ◌-◌, ◌<◌, ◌≤◌, List, [], ◌++◌, length, take, drop, get_or, ap, subst, sym, refl}
+use Rattle.std.proofs.Common.{◌∙◌, add-one, arith}
 use Rattle.std.specs.List.{remove}
 use Rattle.vol_bytes.proofs.FieldLaws.{u16_at-same, u32_at-same}
 use Rattle.ntfs_def.specs.Record.{used_size}

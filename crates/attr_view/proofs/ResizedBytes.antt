@@ -46,7 +46,8 @@ module _ (b0 b1 b2 b3 b4 b5 b6 b7 : List ℕ) (at len n m : ℕ) (low : 0x38 ≤
   form : (k : ℕ) → at + 0x08 ≤ k → k < at + 0x0A → get_or b7 k 0 ≡ get_or b0 k 0
   form k over under =
       r7.above k (omega (arith, over, low)) ∙ r6.below k (omega (arith, under)) ∙ r5.below k (omega (arith, under))
-      ∙ r4.below k under ∙ r3.above k (omega (arith, over)) ∙ r2.below k (omega (arith, under, past)) ∙ before k (omega (arith, under, past, room))
+      ∙ r4.below k under ∙ r3.above k (omega (arith, over)) ∙ r2.below k (omega (arith, under, past))
+      ∙ before k (omega (arith, under, past, room))
 
   fields : (k : ℕ) → at + 0x0C ≤ k → k < at + 0x10 → get_or b7 k 0 ≡ get_or b0 k 0
   fields k over under =

@@ -1,12 +1,17 @@
 -- A non-resident attribute of which the real and the initialized size were set: every byte but these 16 stays, and they lie in its header.
-use Rattle.std.proofs.Common.{◌≡◌, ℕ, suc, ◌+◌, ◌-◌, ◌%◌, ◌<◌, ◌≤◌, ◌==◌, Bool, true, false, List, [], ◌∷◌, ◌++◌, IsSome, cond, length, take, drop, get_or, ap, subst, sym, refl, ◌∙◌, add-one, arith, length-drop, length-take, get_or-drop, get_or-take}
+use Rattle.std.proofs.Common.{◌≡◌, ℕ, suc, ◌+◌, ◌-◌, ◌%◌, ◌<◌, ◌≤◌, ◌==◌, Bool, true, false, List, [], ◌∷◌, ◌++◌, IsSome, cond, length}
+use Rattle.std.proofs.Common.{take, drop, get_or, ap, subst, sym, refl, ◌∙◌, add-one, arith, length-drop}
+use Rattle.std.proofs.Common.{length-take, get_or-drop, get_or-take}
 use Rattle.std.specs.Prelude.{slice_range, slice_set}
 use Rattle.std.proofs.lemmas.Grind.{same_number_lists}
 use Rattle.std.proofs.lemmas.List.{set_split}
 use Rattle.vol_bytes.specs.Field.{u64_at}
 use Rattle.vol_bytes.proofs.FieldLaws.{u16_at-same, u32_at-same, u64_at-same}
 use Rattle.ntfs_def.specs.Record.{used_size}
-use Rattle.ntfs_def.specs.Attribute.{NonResident, Resident, attribute_at, attribute_flags, attribute_id, attribute_kind, attribute_len, attribute_place, attributes, allocated_len, compressed_len, content_bytes, content_end, content_offset, extent_at, first_vcn, has_compressed_len, header_len, is_resident, last_vcn, name_bytes, name_end, name_offset, name_units, run_text_of, runs_offset, value_len, value_offset}
+use Rattle.ntfs_def.specs.Attribute.{NonResident, Resident, attribute_at, attribute_flags, attribute_id, attribute_kind, attribute_len}
+use Rattle.ntfs_def.specs.Attribute.{attribute_place, attributes, allocated_len, compressed_len, content_bytes, content_end, content_offset}
+use Rattle.ntfs_def.specs.Attribute.{extent_at, first_vcn, has_compressed_len, header_len, is_resident, last_vcn, name_bytes, name_end}
+use Rattle.ntfs_def.specs.Attribute.{name_offset, name_units, run_text_of, runs_offset, value_len, value_offset}
 use Rattle.ntfs_def.specs.Shape.{HasShape, IsWhole}
 use Rattle.ntfs_def.specs.Splice.{IsSpliced}
 use Rattle.ntfs_def.proofs.AttributeLaws.{length-attributes}
@@ -23,7 +28,8 @@ pub extent-of : (block : List ℕ) (at : ℕ) → IsSome (run_text_of (attribute
 unfolding attribute_at
 extent-of block at = by (is_resident block at)
   where
-    by : (b : Bool) → IsSome (run_text_of (cond b (Resident (content_bytes block at)) (NonResident (extent_at block at) (content_bytes block at))))
+    by : (b : Bool)
+        → IsSome (run_text_of (cond b (Resident (content_bytes block at)) (NonResident (extent_at block at) (content_bytes block at))))
         → b ≡ false
     by true some = sym some
     by false some = refl

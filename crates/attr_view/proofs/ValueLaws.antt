@@ -1,5 +1,6 @@
 -- A resident value into which bytes were written, or that was given another length.
-use Rattle.std.proofs.Common.{◌≡◌, ℕ, suc, ◌+◌, ◌-◌, ◌*◌, ◌/◌, ◌%◌, ◌<◌, ◌≤◌, ◌==◌, Bool, true, false, List, Option, Some, IsSome, IsSomeAnd, cond, length, max, min, option_map, get_or, inl, inr, ap, subst, sym, refl, ◌∙◌, arith}
+use Rattle.std.proofs.Common.{◌≡◌, ℕ, suc, ◌+◌, ◌-◌, ◌*◌, ◌/◌, ◌%◌, ◌<◌, ◌≤◌, ◌==◌, Bool, true, false, List, Option, Some, IsSome}
+use Rattle.std.proofs.Common.{IsSomeAnd, cond, length, max, min, option_map, get_or, inl, inr, ap, subst, sym, refl, ◌∙◌, arith}
 use Rattle.std.specs.Prelude.{slice_range, slice_set}
 use Rattle.std.proofs.lemmas.Bool.{cases_lt, ne_eqb}
 use Rattle.std.proofs.lemmas.Grind.{same_number_lists}
@@ -8,14 +9,18 @@ use Rattle.std.proofs.lemmas.Option.{get_or_from_slice_get}
 use Rattle.list_laws.proofs.PieceLaws.{length_within}
 use Rattle.vol_bytes.proofs.FieldLaws.{u16_at-same, u32_at-same}
 use Rattle.ntfs_def.specs.Record.{used_size}
-use Rattle.ntfs_def.specs.Attribute.{Attribute, NonResident, Resident, attribute_at, attribute_len, attribute_place, attributes, content_bytes, extent_at, is_resident, name_end, name_offset, name_units, value_len, value_of, value_offset}
+use Rattle.ntfs_def.specs.Attribute.{Attribute, NonResident, Resident, attribute_at, attribute_len, attribute_place, attributes}
+use Rattle.ntfs_def.specs.Attribute.{content_bytes, extent_at, is_resident, name_end, name_offset, name_units}
+use Rattle.ntfs_def.specs.Attribute.{value_len, value_of, value_offset}
 use Rattle.ntfs_def.specs.Shape.{HasShape, IsAttribute}
 use Rattle.ntfs_def.proofs.AttributeLaws.{length-attributes, slice_get-attributes}
 use Rattle.ntfs_def.proofs.PlaceLaws.{attribute_place-bounded}
 use Rattle.ntfs_def.proofs.ShapeLaws.{header_failing-length, header_failing-used}
-use Rattle.attr_view.specs.Values.{ChangesBody, IsResizedAt, PutsBytes, Resizes, WritesValue, attribute_in, len_with, name_begin, overwritten, value_begin, with_length}
+use Rattle.attr_view.specs.Values.{ChangesBody, IsResizedAt, PutsBytes, Resizes, WritesValue, attribute_in, len_with, name_begin}
+use Rattle.attr_view.specs.Values.{overwritten, value_begin, with_length}
 use Rattle.attr_view.proofs.RangeWrites.{range-resized, range-written}
-use Rattle.attr_view.proofs.RefitLaws.{ChangesBody-refit, IsRefit, end-resident, header-resident, offset-resident, value-changed, value-resident}
+use Rattle.attr_view.proofs.RefitLaws.{ChangesBody-refit, IsRefit, end-resident, header-resident}
+use Rattle.attr_view.proofs.RefitLaws.{offset-resident, value-changed, value-resident}
 
 -- an attribute with a value is resident
 pub resident-of : (block : List ℕ) (at : ℕ) (P : List ℕ → Type 0) → IsSomeAnd (value_of (attribute_at block at).body) P
@@ -23,7 +28,8 @@ pub resident-of : (block : List ℕ) (at : ℕ) (P : List ℕ → Type 0) → Is
 unfolding attribute_at
 resident-of block at P = by (is_resident block at)
   where
-    by : (b : Bool) → IsSomeAnd (value_of (cond b (Resident (content_bytes block at)) (NonResident (extent_at block at) (content_bytes block at)))) P
+    by : (b : Bool)
+        → IsSomeAnd (value_of (cond b (Resident (content_bytes block at)) (NonResident (extent_at block at) (content_bytes block at)))) P
         → b ≡ true
     by true some = refl
     by false none = absurd none
@@ -32,13 +38,15 @@ pub resident-some : (block : List ℕ) (at : ℕ) → IsSome (value_of (attribut
 unfolding attribute_at
 resident-some block at = by (is_resident block at)
   where
-    by : (b : Bool) → IsSome (value_of (cond b (Resident (content_bytes block at)) (NonResident (extent_at block at) (content_bytes block at))))
+    by : (b : Bool)
+        → IsSome (value_of (cond b (Resident (content_bytes block at)) (NonResident (extent_at block at) (content_bytes block at))))
         → b ≡ true
     by true some = refl
     by false none = none
 
 -- Where the value of a resident attribute lies.
-module _ (old : List ℕ) (count i : ℕ) (shape : HasShape old count) (lt : i < count) (resident : is_resident old (attribute_place old i) ≡ true) where
+module _ (old : List ℕ) (count i : ℕ) (shape : HasShape old count) (lt : i < count)
+    (resident : is_resident old (attribute_place old i) ≡ true) where
   abbrev place : ℕ
   place = attribute_place old i
 
@@ -78,7 +86,8 @@ ChangesBody-same old count i shape lt =
       header = refl;
       in_use = refl;
       place = refl;
-      attributes = sym (ap (λ (a : Attribute). slice_set (attributes old) i a) (sym here) ∙ set-get_or (attributes old) i (attribute_in old i));
+      attributes = sym (ap (λ (a : Attribute). slice_set (attributes old) i a) (sym here)
+          ∙ set-get_or (attributes old) i (attribute_in old i));
       kind = refl;
       name = refl;
       id = refl;
@@ -269,7 +278,8 @@ module _ (old new : List ℕ) (count i n : ℕ) (shape : HasShape old count) (lt
       omega (arith, is, past-header, room)
 
   start-named : 0 < name_units old q → name_begin old q ≡ name_offset old q
-  start-named some = ap (λ b. cond b (min 24 (name_offset old q)) (name_offset old q)) (ne_eqb (name_units old q) 0 (λ e. omega (arith, some, e)))
+  start-named some = ap (λ b. cond b (min 24 (name_offset old q)) (name_offset old q))
+      (ne_eqb (name_units old q) 0 (λ e. omega (arith, some, e)))
 
   refit-resized : IsRefit old new q size n begin (name_begin old q)
   refit-resized = record {

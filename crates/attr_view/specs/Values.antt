@@ -2,10 +2,12 @@
 -- `block` is the opened record, and `at` the place of an attribute in it.
 -- Layout: Linux-NTFS documentation, "Attribute Headers"; Carrier, File System Forensic Analysis, chapter 13, the data structure
 -- of a resident attribute.
-use Rattle.std.specs.Prelude.{◌≡◌, ℕ, ◌+◌, ◌-◌, ◌<◌, ◌≤◌, ◌==◌, ◌++◌, List, Some, drop, length, max, min, replicate, slice_index, slice_set, take, if◌then◌else◌}
+use Rattle.std.specs.Prelude.{◌≡◌, ℕ, ◌+◌, ◌-◌, ◌<◌, ◌≤◌, ◌==◌, ◌++◌, List, Some, drop, length, max, min, replicate, slice_index}
+use Rattle.std.specs.Prelude.{slice_set, take, if◌then◌else◌}
 use Rattle.std.specs.Option.{option_map}
 use Rattle.vol_bytes.specs.Field.{SameOutside}
-use Rattle.ntfs_def.specs.Attribute.{Attribute, attribute_at, attribute_len, attribute_place, attributes, name_offset, name_units, value_len, value_of, value_offset}
+use Rattle.ntfs_def.specs.Attribute.{Attribute, attribute_at, attribute_len, attribute_place, attributes, name_offset, name_units}
+use Rattle.ntfs_def.specs.Attribute.{value_len, value_of, value_offset}
 use Rattle.ntfs_def.specs.Record.{header_of, is_in_use, used_size}
 use Rattle.ntfs_def.specs.Rounded.{up_to_8}
 use Rattle.ntfs_def.specs.Shape.{HasShape}

@@ -1,5 +1,6 @@
 -- THE WHOLE: where the times and the flags of a file that is shown were set, and told anew under all of its names.
-use Rattle.std.proofs.Common.{◌≡◌, ◌≢◌, ◌&&◌, ℕ, Bool, true, false, List, [], ◌∷◌, take, Option, Some, None, refl, sym, ap, subst, inr, ◌∙◌, arith}
+use Rattle.std.proofs.Common.{◌≡◌, ◌≢◌, ◌&&◌, ℕ, Bool, true, false, List, [], ◌∷◌, take, Option, Some, None, refl, sym, ap, subst}
+use Rattle.std.proofs.Common.{inr, ◌∙◌, arith}
 use Rattle.std.specs.Prelude.{◌⊎◌, Contains, IsSomeAnd, IsTrue, bit_and, cond, not, unwrap_or}
 use Rattle.std.specs.Option.{option_and_then}
 use Rattle.std.specs.FinMap as finmap

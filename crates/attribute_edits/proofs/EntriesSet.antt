@@ -1,5 +1,5 @@
--- THE ENTRIES of all directories where the attributes of a file were set: those of other files are as they were, each of the file tells what it
--- does, and keeps what the tree does not show.
+-- THE ENTRIES of all directories where the attributes of a file were set: those of other files are as they were, each of the file tells
+-- what it does, and keeps what the tree does not show.
 use Rattle.std.proofs.Common.{◌≡◌, ◌==◌, ◌&&◌, ◌||◌, ℕ, Bool, true, false, List, [], ◌∷◌, refl, sym, ap, subst, inl, inr, ◌∙◌, true≢false}
 use Rattle.std.specs.Prelude.{Contains, bit_and, cond, filter, not}
 use Rattle.std.proofs.lemmas.Bool.{and_parts, eq-eqb, eqb-true}

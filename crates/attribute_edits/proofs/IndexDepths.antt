@@ -53,7 +53,8 @@ head-of view dir =
     option_and_then (λ (part : Part). head-in (content_value part.content)) (first_part (parts_at view dir INDEX_ROOT index_name))
 
 abbrev pub SameIndex : VolumeView → VolumeView → ℕ → Type 0
-SameIndex old new dir = (head-of new dir ≡ head-of old dir) × (index_depth new (directory_index dir) ≡ index_depth old (directory_index dir))
+SameIndex old new dir = (head-of new dir ≡ head-of old dir)
+    × (index_depth new (directory_index dir) ≡ index_depth old (directory_index dir))
 
 pub same-then : (old mid new : VolumeView) (dir : ℕ) → SameIndex old mid dir → SameIndex mid new dir → SameIndex old new dir
 same-then old mid new dir a b = (b.0 ∙ a.0, b.1 ∙ a.1)
@@ -125,7 +126,8 @@ module _ (old new : VolumeView) (dir : ℕ) (units : List ℕ) (told : Duplicate
   abbrev records-mid : Nodes
   records-mid = short_nodes Names (index_record_on r.mid (names_index old dir))
 
-  said-old : (vcn : ℕ) → IsIndexRecordAt old (names_index old dir) vcn → SaysAt (index_nodes Names old (names_index old dir)) records-old vcn
+  said-old : (vcn : ℕ) → IsIndexRecordAt old (names_index old dir) vcn
+      → SaysAt (index_nodes Names old (names_index old dir)) records-old vcn
   unfolding index_nodes
   said-old vcn at node e = ap (option_and_then (short_node Names)) (r.held.there vcn at) ∙ e
 

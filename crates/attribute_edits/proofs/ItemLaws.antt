@@ -1,5 +1,5 @@
--- THE ITEMS OF DIRECTORIES where the entries of a file's names were told anew, one after another: each is the same, or is one of the file that
--- tells this; and in the end each entry of the file does.
+-- THE ITEMS OF DIRECTORIES where the entries of a file's names were told anew, one after another: each is the same, or is one of the file
+-- that tells this; and in the end each entry of the file does.
 use Rattle.std.proofs.Common.{◌≡◌, ◌++◌, ℕ, Bool, true, false, List, [], ◌∷◌, Option, Some, None, refl, sym, ap, subst, inl, inr, ◌∙◌}
 use Rattle.std.specs.Prelude.{◌⊎◌, Contains, IsSomeAnd, IsTrue, bit_and, bit_or, cond}
 use Rattle.std.specs.declared.cmp.Ordering.TheVariants.{Equal}

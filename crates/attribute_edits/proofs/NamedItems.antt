@@ -1,5 +1,6 @@
 -- THE ENTRIES OF A FILE: each of its names has one in its directory, and each entry that leads to the file is of one of its names.
-use Rattle.std.proofs.Common.{◌≡◌, ◌<◌, ◌==◌, ◌&&◌, ℕ, Bool, true, false, List, [], ◌∷◌, map, Option, Some, None, refl, sym, ap, subst, ◌∙◌, arith}
+use Rattle.std.proofs.Common.{◌≡◌, ◌<◌, ◌==◌, ◌&&◌, ℕ, Bool, true, false, List, [], ◌∷◌, map, Option, Some, None, refl, sym, ap}
+use Rattle.std.proofs.Common.{subst, ◌∙◌, arith}
 use Rattle.std.specs.Prelude.{Contains, IfSome, IsSomeAnd, IsTrue, codes, cond, nat_lt}
 use Rattle.std.specs.List.{range_with_len}
 use Rattle.std.specs.declared.cmp.Ordering.TheVariants.{Equal}
@@ -14,7 +15,8 @@ use Rattle.ntfs_def.specs.Units.{wide}
 use Rattle.ntfs_def.specs.declared.index.NodeForm.TheVariants.{Names}
 use Rattle.ntfs_def.proofs.KeyOrderLaws.{name_ties}
 use Rattle.list_laws.proofs.SameItemsLaws.{SameItems-passing, SameItems-sym}
-use Rattle.list_laws.proofs.MemberLaws.{Contains-filter, Contains-flat_map, Contains-from_filter, Contains-from_flat_map, Contains-from_map, Contains-map, Contains-nil, Contains-range}
+use Rattle.list_laws.proofs.MemberLaws.{Contains-filter, Contains-flat_map, Contains-from_filter, Contains-from_flat_map, Contains-from_map}
+use Rattle.list_laws.proofs.MemberLaws.{Contains-map, Contains-nil, Contains-range}
 use Rattle.volume_def.specs.CaseClause.{volume_fold}
 use Rattle.volume_def.specs.FileNames.{is_in_directory, links, links_of_file, names_of}
 use Rattle.volume_def.specs.Files.{Record, is_base, is_directory, record_on, record_in, records_of}

@@ -1,4 +1,5 @@
--- What changes where a file's times and DOS flags are set, and a file whose security id is set: in its $STANDARD_INFORMATION, and then its times.
+-- What changes where a file's times and DOS flags are set, and a file whose security id is set:
+-- in its $STANDARD_INFORMATION, and then its times.
 use Rattle.std.specs.Prelude.{◌≡◌, ◌⊎◌, ◌==◌, ◌&&◌, ◌||◌, ◌≤◌, ℕ, Bool, List, [], ◌∷◌, Contains, IsSomeAnd, false, length, map, true}
 use Rattle.std.specs.FinMap as finmap
 use Rattle.std.specs.Str.{bytes_eq}

@@ -20,7 +20,8 @@ sound-kept None mounted tables yes_it = absurd (let f : false ≡ true = yes_it 
 sound-kept (Some image) mounted tables yes_it = (tables image refl).clauses
 
 -- no index is wrong
-pub tables-indexed : (told : Option (List ℕ)) (mounted : Mounted) (first : Option ℕ) → WhereTold told (λ image. HoldsTables 10 image mounted)
+pub tables-indexed : (told : Option (List ℕ)) (mounted : Mounted) (first : Option ℕ)
+    → WhereTold told (λ image. HoldsTables 10 image mounted)
     → first ≡ None → (IsTrue (is_some told) → IsLeastFailing (MeetsIndexes (kept_view told mounted)) first)
     → WhereTold told (λ image. HoldsTables 11 image mounted)
 tables-indexed None mounted first tables none least image is = absurd (let f : None ≡ Some image = is in cc)

@@ -55,7 +55,8 @@ module _ (view : VolumeView) (file : FileParts) (some : 0 < cluster_bytes view.l
 
     abbrev pub Tells : IndexParts → List ℕ → Option (List (List ℕ)) → Type 0
     Tells i table said =
-        TellsIndex Names (key_rule 1 (name_order (fold_of table)) is_name_key) (short_nodes Names (index_record_on view i)) index.root.now said
+        TellsIndex Names (key_rule 1 (name_order (fold_of table)) is_name_key)
+        (short_nodes Names (index_record_on view i)) index.root.now said
 
     told : (said : Option (List (List ℕ))) → Tells (index_held file index.name.now) upcase said
         → Tells (directory_parts view f) (value_on view (case_parts view)) said
@@ -67,7 +68,8 @@ module _ (view : VolumeView) (file : FileParts) (some : 0 < cluster_bytes view.l
     pub directory-breaks : (said : Option (List (List ℕ))) → said ≡ None → Tells (index_held file index.name.now) upcase said
         → IsDirectoryIndex view f → ⊥
     directory-breaks said none tells has =
-        let own = ordered_from_directory view f (index_record_on view (directory_parts view f)) (records-of view (directory_parts view f) some)
+        let own = ordered_from_directory view f (index_record_on view (directory_parts view f))
+        (records-of view (directory_parts view f) some)
         index.root.now parts has in
         told None (subst (Tells (index_held file index.name.now) upcase) none tells) own.items own.index
 
@@ -85,5 +87,6 @@ module _ (view : VolumeView) (file : FileParts) (some : 0 < cluster_bytes view.l
           λ has.
               let own = ordered_from_directory view f records those index.root.now parts has in
               same.1 (subst (SameItems (links_of_entries entries)) (sym names.links)
-              (subst (λ (xs : List Item). SameItems (map link_of xs) (links_in view f)) (sym (its_own.only own.items own.index)) own.names)),
+              (subst (λ (xs : List Item). SameItems (map link_of xs) (links_in view f))
+              (sym (its_own.only own.items own.index)) own.names)),
         )

@@ -1,5 +1,6 @@
 -- What the attributes of one file tell of its roots and of its names in $Extend, and its view indexes.
-use Rattle.std.proofs.Common.{◌≡◌, ◌≢◌, ◌<◌, ◌≤◌, ◌+◌, ◌*◌, ◌/◌, ◌%◌, ◌^◌, ◌==◌, ◌&&◌, ◌↔◌, ℕ, Bool, true, false, cond, List, [], ◌∷◌, length, get_or, Option, Some, None, IsSomeAnd, IfSome, IsTrue, is_some, refl, sym, ap, subst, ◌∙◌, arith}
+use Rattle.std.proofs.Common.{◌≡◌, ◌≢◌, ◌<◌, ◌≤◌, ◌+◌, ◌*◌, ◌/◌, ◌%◌, ◌^◌, ◌==◌, ◌&&◌, ◌↔◌, ℕ, Bool, true, false, cond, List, [], ◌∷◌}
+use Rattle.std.proofs.Common.{length, get_or, Option, Some, None, IsSomeAnd, IfSome, IsTrue, is_some, refl, sym, ap, subst, ◌∙◌, arith}
 use Rattle.std.specs.Prelude.{codes, filter}
 use Rattle.std.specs.List.{All, cons_option, count_by, filter_map, list_any, range_with_len}
 use Rattle.std.specs.Option.{option_map}
@@ -18,8 +19,10 @@ use Rattle.ntfs_def.specs.FileName.{is_name_key, key_units, name_in, unit_count}
 use Rattle.ntfs_def.specs.Units.{units_at, wide}
 use Rattle.volume_def.specs.AttributesClause.{IsRightPart, IsRightRecord}
 use Rattle.volume_def.specs.FileNames.{names_among, names_of}
-use Rattle.volume_def.specs.Files.{Part, Record, content_value, file_of, is_base, is_directory, part_of, parts, parts_in, record_on, records_of}
-use Rattle.volume_def.specs.IndexesClause.{IndexParts, IsDirectoryIndex, IsViewIndex, KeyRule, MeetsIndexes, MeetsViewIndex, StandsInExtend, hash_rule, id_rule, index_parts, is_in_extend, word_rule}
+use Rattle.volume_def.specs.Files.{Part, Record, content_value, file_of, is_base, is_directory, part_of, parts}
+use Rattle.volume_def.specs.Files.{parts_in, record_on, records_of}
+use Rattle.volume_def.specs.IndexesClause.{IndexParts, IsDirectoryIndex, IsViewIndex, KeyRule, MeetsIndexes, MeetsViewIndex, StandsInExtend}
+use Rattle.volume_def.specs.IndexesClause.{hash_rule, id_rule, index_parts, is_in_extend, word_rule}
 use Rattle.volume_def.specs.Readable.{IsReadableVolume}
 use Rattle.volume_def.specs.Table.{cluster_bytes}
 use Rattle.volume_def.specs.View.{VolumeView}
@@ -116,7 +119,8 @@ stands letters ps = count_by (is_in_extend letters) (names_among ps)
 abbrev pub is_standing : List ℕ → Attribute → Bool
 is_standing letters a = list_any (is_in_extend letters) (names_among (part_of 0 a ∷ []))
 
-pub right-value : (a : Attribute) → IsRightPart (part_of 0 a) → a.kind ≡ FILE_NAME → IsSomeAnd (value_of a.body) (λ value. IsTrue (is_name_key value))
+pub right-value : (a : Attribute) → IsRightPart (part_of 0 a) → a.kind ≡ FILE_NAME
+    → IsSomeAnd (value_of a.body) (λ value. IsTrue (is_name_key value))
 right-value a right kind = subst (λ o. IsSomeAnd o (λ value. IsTrue (is_name_key value))) (value-held a.body) (right.name kind)
 
 module _ (letters : List ℕ) (a : Attribute) (value : List ℕ) (kind : a.kind ≡ FILE_NAME) (is : value_of a.body ≡ Some value) where
@@ -137,7 +141,8 @@ pub record StandsBehind (letters : List ℕ) (all : List Part) (left : List Attr
   pub right : All IsRightPart parts
   pub count : stands letters all ≡ stands letters parts
 
-pub stands-all : (letters : List ℕ) (file : FileParts) (left : List Attribute) → left ≡ attributes_held file → All IsRightPart (parts_held file)
+pub stands-all : (letters : List ℕ) (file : FileParts) (left : List Attribute) → left ≡ attributes_held file
+    → All IsRightPart (parts_held file)
     → StandsBehind letters (parts_held file) left
 stands-all letters file left all right = record {
   parts = parts_held file;
@@ -156,7 +161,8 @@ record StandsNext (letters : List ℕ) (ps : List Part) (a : Attribute) (rest : 
 
 name-held : (n : ℕ) (a : Attribute) → names_among (part_of n a ∷ []) ≡ names_among (part_of 0 a ∷ [])
 name-held n a =
-    elim (a.kind == FILE_NAME) as (λ b. filter_map name_of_part (cond b (part_of n a ∷ []) []) ≡ filter_map name_of_part (cond b (part_of 0 a ∷ []) [])) [
+    elim (a.kind == FILE_NAME) as (λ b. filter_map name_of_part (cond b (part_of n a ∷ []) [])
+    ≡ filter_map name_of_part (cond b (part_of 0 a ∷ []) [])) [
       | true ↦ refl
       | false ↦ refl
     ]
@@ -234,18 +240,22 @@ index-told : (view : VolumeView) (rule : KeyRule) (index : IndexParts) (root : L
 index-told view rule index root some parts None none = (
   λ e. absurd (true≢false (sym e)),
   λ has.
-      absurd (none has.items (ordered_from_index View rule view index (index_record_on view index) (records-of view index some) root has.items parts tt has.has)),
+      absurd
+      (none has.items (ordered_from_index View rule view index (index_record_on view index)
+      (records-of view index some) root has.items parts tt has.has)),
 )
 index-told view rule index root some parts (Some entries) the = (
   λ _. record {
     items = items_in entries;
-    has = index_from_ordered View rule view index (index_record_on view index) (records-of view index some) root (items_in entries) parts the.index;
+    has = index_from_ordered View rule view index (index_record_on view index) (records-of view index some) root
+        (items_in entries) parts the.index;
   },
   λ _. refl,
 )
 
 -- The index of a name of a file that is held as the volume has it.
-module _ (view : VolumeView) (file : FileParts) (name units : List ℕ) (wide-name : name ≡ wide units) (are : AreParts view file) (rule : KeyRule) where
+module _ (view : VolumeView) (file : FileParts) (name units : List ℕ) (wide-name : name ≡ wide units)
+    (are : AreParts view file) (rule : KeyRule) where
   index-is : index_held file name ≡ index_parts view (file_number file) (wide units)
   index-is = ap (index_held file) wide-name ∙ index-held view file (wide units) are
 
@@ -258,7 +268,8 @@ module _ (view : VolumeView) (file : FileParts) (name units : List ℕ) (wide-na
     there = subst (λ (x : IndexParts). 1 ≤ length x.root) index-is some
 
     -- whose parts are not right
-    pub no-index-meets : ((root : List ℕ) → ¬ (HasParts (index_held file name) root)) → IsTrue false ↔ MeetsViewIndex view (file_number file) units rule
+    pub no-index-meets : ((root : List ℕ) → ¬ (HasParts (index_held file name) root))
+        → IsTrue false ↔ MeetsViewIndex view (file_number file) units rule
     no-index-meets none = (
       λ e. absurd (true≢false (sym e)),
       λ meets.
@@ -277,14 +288,16 @@ module _ (view : VolumeView) (file : FileParts) (name units : List ℕ) (wide-na
         → TellsIndex View rule (short_nodes View (index_record_on view (index_held file name))) root told
         → IsTrue (is_some told) ↔ MeetsViewIndex view (file_number file) units rule
     told-meets root told size parts tells =
-        let both = index-told view rule (index_parts view (file_number file) (wide units)) root size (subst (λ x. HasParts x root) index-is parts) told
+        let both = index-told view rule (index_parts view (file_number file) (wide units)) root size
+        (subst (λ x. HasParts x root) index-is parts) told
         (subst (λ x. TellsIndex View rule (short_nodes View (index_record_on view x)) root told) index-is tells) in
         (λ t _. both.0 t, λ meets. both.1 (meets there))
 
 -- THE CLAUSE IN PARTS
 
 -- the indexes of security descriptors
-pub secured-then : (view : VolumeView) (f : ℕ) (a b : Bool) → f ≡ SECURE → a ≡ true → IsTrue a ↔ MeetsViewIndex view f (codes "$SII") id_rule
+pub secured-then : (view : VolumeView) (f : ℕ) (a b : Bool) → f ≡ SECURE → a ≡ true
+    → IsTrue a ↔ MeetsViewIndex view f (codes "$SII") id_rule
     → IsTrue b ↔ MeetsViewIndex view f (codes "$SDH") hash_rule → IsTrue b ↔ MeetsSecured view f
 secured-then view f a b same is one two =
     let each = both-then a b is one two in
@@ -302,7 +315,10 @@ module _ (view : VolumeView) (file : FileParts) (letters units : List ℕ) (are 
 
   pub not-extended : (FIRST_ORDINARY ≤ file_number file → 1 ≤ stands letters (parts_held file) → ⊥)
       → IsTrue true ↔ (StandsInExtend view (file_number file) letters → MeetsViewIndex view (file_number file) units word_rule)
-  not-extended none = (λ _ there. absurd (none there.ordinary (subst (λ ns. 1 ≤ count_by (is_in_extend letters) ns) (sym names-held) there.named)), λ _. refl)
+  not-extended none = (
+    λ _ there. absurd (none there.ordinary (subst (λ ns. 1 ≤ count_by (is_in_extend letters) ns) (sym names-held) there.named)),
+    λ _. refl,
+  )
 
   pub extended : (right : Bool) → FIRST_ORDINARY ≤ file_number file → 1 ≤ stands letters (parts_held file)
       → IsTrue right ↔ MeetsViewIndex view (file_number file) units word_rule
@@ -323,8 +339,10 @@ module _ (view : VolumeView) (f : ℕ) (header : RecordHeader) (has : HasBaseRec
   a-directory right is meets =
       let directory : IsTrue (is_directory base.0) =
       eq-eqb (base.0.header.flags / 2 % 2) 1 (sym (ap (λ f. f / 2 % 2) base.2.1.flags) ∙ is) in (
-        λ e. subst (λ o. IfSome o (λ r. IsTrue (is_base r) → IsTrue (is_directory r) → IsDirectoryIndex view f)) (sym base.1) (λ _ _. meets.0 e),
-        λ m. meets.1 (subst (λ o. IfSome o (λ r. IsTrue (is_base r) → IsTrue (is_directory r) → IsDirectoryIndex view f)) base.1 m base.2.0 directory),
+        λ e. subst (λ o. IfSome o (λ r. IsTrue (is_base r) → IsTrue (is_directory r) → IsDirectoryIndex view f))
+            (sym base.1) (λ _ _. meets.0 e),
+        λ m. meets.1 (subst (λ o. IfSome o (λ r. IsTrue (is_base r) → IsTrue (is_directory r) → IsDirectoryIndex view f))
+            base.1 m base.2.0 directory),
       )
 
 pub told-names : (view : VolumeView) (notes : Notes) (f : ℕ) → AreNotes view notes → TellsNames view f (notes_in f notes)

@@ -1,5 +1,6 @@
 -- The steps of a gathering.
-use Rattle.std.proofs.Common.{◌≡◌, ℕ, zero, suc, ◌+◌, ◌<◌, ◌==◌, List, [], ◌∷◌, ◌++◌, Option, Some, None, Bool, true, false, length, map, take, get_or, refl, sym, ap, subst, ◌∙◌, arith, append_assoc, append-nil}
+use Rattle.std.proofs.Common.{◌≡◌, ℕ, zero, suc, ◌+◌, ◌<◌, ◌==◌, List, [], ◌∷◌, ◌++◌, Option, Some, None, Bool, true, false, length, map}
+use Rattle.std.proofs.Common.{take, get_or, refl, sym, ap, subst, ◌∙◌, arith, append_assoc, append-nil}
 use Rattle.std.proofs.lemmas.Bool.{eq-eqb, eqb-true}
 use Rattle.std.proofs.lemmas.List.{map-append}
 use Rattle.ntfs_def.specs.Node.{Item, Entry, Node, child_from, item_in}
@@ -9,7 +10,8 @@ use Rattle.index_tree.proofs.MovedWalks.{one_if-same}
 use Rattle.check_dirs.specs.Gathered.{GathersNode, GathersTree, LacksNode, LacksTree, Meets, TellsNode, TellsTree, met_times}
 use Rattle.list_laws.proofs.OptionLaws.{none_other, some_same}
 use Rattle.index_tree.proofs.IndexTreeLaws.{EachBelow-at, below_at}
-use Rattle.check_dirs.proofs.TreeLaws.{AreBranchesStored, branch_items-list, branch_times-list, child_at_place, each_below, each_branch, each_take, list_items, list_items-more, list_times, list_times-more, one_branches, times_front}
+use Rattle.check_dirs.proofs.TreeLaws.{AreBranchesStored, branch_items-list, branch_times-list, child_at_place, each_below, each_branch}
+use Rattle.check_dirs.proofs.TreeLaws.{each_take, list_items, list_items-more, list_times, list_times-more, one_branches, times_front}
 
 module _ (nodes : Nodes) where
   -- below a leaf

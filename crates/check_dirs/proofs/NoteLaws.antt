@@ -1,5 +1,7 @@
 -- The names of parts, of a record and of a file, noted.
-use Rattle.std.proofs.Common.{◌≡◌, ◌<◌, ◌+◌, ◌%◌, ◌^◌, ◌==◌, ◌++◌, ℕ, suc, true, cond, List, [], ◌∷◌, map, length, get_or, take, drop, slice_get, Option, Some, None, IsSomeAnd, IsTrue, inl, inr, refl, sym, ap, subst, ◌∙◌, append_assoc, append-nil, arith}
+use Rattle.std.proofs.Common.{◌≡◌, ◌<◌, ◌+◌, ◌%◌, ◌^◌, ◌==◌, ◌++◌, ℕ, suc, true, cond, List, [], ◌∷◌, map, length, get_or, take, drop}
+use Rattle.std.proofs.Common.{slice_get, Option, Some, None, IsSomeAnd, IsTrue, inl, inr, refl, sym, ap, subst, ◌∙◌}
+use Rattle.std.proofs.Common.{append_assoc, append-nil, arith}
 use Rattle.std.specs.Prelude.{unwrap_or}
 use Rattle.std.specs.List.{cons_option, filter_map, flat_map}
 use Rattle.std.specs.Option.{option_and_then, option_map, option_to_list}
@@ -50,7 +52,8 @@ module _ (view : VolumeView) (file : Reference) where
   pub NotesNames-none : (old : List NameNote) → NotesNames view file [] old old
   NotesNames-none old = record { noted = []; added = sym (append-nil old); each = All-nil (IsNoted view); links = refl }
 
-  pub NotesNames-then : (xs ys : List Part) (old mid new : List NameNote) → NotesNames view file xs old mid → NotesNames view file ys mid new
+  pub NotesNames-then : (xs ys : List Part) (old mid new : List NameNote) → NotesNames view file xs old mid
+      → NotesNames view file ys mid new
       → NotesNames view file (xs ++ ys) old new
   NotesNames-then xs ys old mid new one more = record {
     noted = one.noted ++ more.noted;
@@ -166,7 +169,8 @@ module _ (view : VolumeView) (file : ℕ) (held : Held) (is : IsHeldRight view h
       (part-right place a at) mid new added in
       subst (λ parts. NotesNames view (reference_in file) parts old new)
       (sym (ap (map (part_of held.number)) more ∙ map-append (part_of held.number) (take place all) (a ∷ [])))
-      (NotesNames-then view (reference_in file) (map (part_of held.number) (take place all)) (part_of held.number a ∷ []) old mid new before one)
+      (NotesNames-then view (reference_in file) (map (part_of held.number) (take place all))
+      (part_of held.number a ∷ []) old mid new before one)
 
 -- The records of a file, one more.
 pub file-more : (view : VolumeView) (file : Reference) (held : List Held) (k : ℕ) (d : Held) (old mid new : List NameNote) → k < length held

@@ -1,9 +1,12 @@
 -- The notes of the files below a number, one file more.
-use Rattle.std.proofs.Common.{◌≡◌, ◌≢◌, ◌<◌, ◌+◌, ◌-◌, ◌*◌, ◌/◌, ◌%◌, ◌^◌, ◌==◌, ◌||◌, ◌++◌, ℕ, false, cond, List, [], ◌∷◌, map, length, get_or, take, drop, Option, Some, None, IsSomeAnd, IfSome, IsTrue, inl, inr, refl, sym, ap, subst, ◌∙◌, arith, append-nil}
+use Rattle.std.proofs.Common.{◌≡◌, ◌≢◌, ◌<◌, ◌+◌, ◌-◌, ◌*◌, ◌/◌, ◌%◌, ◌^◌, ◌==◌, ◌||◌, ◌++◌, ℕ, false, cond, List, [], ◌∷◌, map, length}
+use Rattle.std.proofs.Common.{get_or, take, drop, Option, Some, None, IsSomeAnd, IfSome, IsTrue, inl, inr, refl, sym, ap, subst}
+use Rattle.std.proofs.Common.{◌∙◌, arith, append-nil}
 use Rattle.std.specs.List.{All, AllPairs, Contains, flat_map, list_any, range_with_len}
 use Rattle.std.proofs.lemmas.Bool.{cases_Bool, eq-eqb, eqb-false, eqb-true}
 use Rattle.std.proofs.lemmas.List.{drop_at, map-append, take_rest}
-use Rattle.std.proofs.lemmas.List.Elements.{All-append, All-contains, All-map, All-nil, All-push, All-weaker, Contains-append_left, Contains-get_or, Contains-push}
+use Rattle.std.proofs.lemmas.List.Elements.{All-append, All-contains, All-map, All-nil, All-push, All-weaker}
+use Rattle.std.proofs.lemmas.List.Elements.{Contains-append_left, Contains-get_or, Contains-push}
 use Rattle.std.proofs.lemmas.List.Folds.{list_any_at}
 use Rattle.std.proofs.lemmas.List.Quantifiers.{all_pairs_push}
 use Rattle.ntfs_def.specs.declared.records.TheConstants.{EXTEND, SECURE}
@@ -57,7 +60,8 @@ held-right view f one readable current own =
     }
 
 pub loaded : (view : VolumeView) (f : ℕ) (file : BaseFile) → IsReadableVolume view → HasBaseRecord view f file.header
-    → AreParts view file.parts → All (λ one. IsRecordOf view f one.number) (held_of file.parts) → file_number file.parts ≡ f → IsLoaded view f file
+    → AreParts view file.parts → All (λ one. IsRecordOf view f one.number) (held_of file.parts)
+    → file_number file.parts ≡ f → IsLoaded view f file
 loaded view f file readable header are own number = record {
   header = header;
   held = λ k d lt. held-right view f (get_or (held_of file.parts) k d) readable (are.current k d lt) (own k d lt);
@@ -69,7 +73,8 @@ loaded view f file readable header are own number = record {
 abbrev links_at : VolumeView → ℕ → List Link
 links_at view f = links_of_file (records_of view) f (record_on view f)
 
-none-linked : (view : VolumeView) (f : ℕ) (o : Option Record) → ¬ (IsSomeAnd o (λ r. IsTrue (is_base r))) → links_of_file (records_of view) f o ≡ []
+none-linked : (view : VolumeView) (f : ℕ) (o : Option Record) → ¬ (IsSomeAnd o (λ r. IsTrue (is_base r)))
+    → links_of_file (records_of view) f o ≡ []
 none-linked view f None un = refl
 none-linked view f (Some r) un = elim (cases_Bool (is_base r)) [
   | inl t ↦ absurd (un t)
@@ -102,7 +107,8 @@ below-none view noting names wanted = record {
   unasked = λ f lt un. absurd (omega arith);
 }
 
-pub below-unused : (view : VolumeView) (n : ℕ) (noting : Noting) → ¬ (IsFile view n) → NotesBelow view n noting → NotesBelow view (n + 1) noting
+pub below-unused : (view : VolumeView) (n : ℕ) (noting : Noting) → ¬ (IsFile view n) → NotesBelow view n noting
+    → NotesBelow view (n + 1) noting
 below-unused view n noting un before = record {
   links = before.links
       ∙ sym (flat_map-range_more (links_at view) n
@@ -112,7 +118,8 @@ below-unused view n noting un before = record {
   rising = before.rising;
   below = All-weaker (λ f. f < n) (λ f. f < n + 1) (λ f lt. omega arith) noting.wanted.items before.below;
   files = before.files;
-  unasked = below-cases (λ f. ¬ (Contains noting.wanted.items f) → Asked view f) n before.unasked (λ _. none-asked view n (record_on view n) un);
+  unasked = below-cases (λ f. ¬ (Contains noting.wanted.items f) → Asked view f) n before.unasked
+      (λ _. none-asked view n (record_on view n) un);
 }
 
 -- A file, noted.
@@ -137,7 +144,8 @@ module _ (view : VolumeView) (n : ℕ) (file : BaseFile) (old new : Noting) (ref
       ∙ ap (λ ns. map (linked (reference_in reference)) ns) names-are
       ∙ ap (λ r. map (linked r) (names_of (records_of view) n)) reference-is
       ∙ sym (ap (links_of_file (records_of view) n) base.1
-      ∙ ap (λ b. cond b (map (linked (record { number = n; sequence = base.0.header.sequence })) (names_of (records_of view) n)) []) base.2.0)
+      ∙ ap (λ b. cond b (map (linked (record { number = n; sequence = base.0.header.sequence })) (names_of (records_of view) n)) [])
+      base.2.0)
 
   more-links : NotesBelow view n old → map (link_noted view) new.names.items ≡ flat_map (links_at view) (range_with_len 0 (n + 1))
   more-links before =
@@ -162,15 +170,18 @@ module _ (view : VolumeView) (n : ℕ) (file : BaseFile) (old new : Noting) (ref
     rising = subst (AllPairs (λ f behind. f < behind)) (sym added)
         (all_pairs_push (λ f behind. f < behind) old.wanted.items n before.rising (λ k d lt. before.below k d lt));
     below = subst (All (λ f. f < n + 1)) (sym added)
-        (All-push (λ f. f < n + 1) old.wanted.items n (All-weaker (λ f. f < n) (λ f. f < n + 1) (λ f lt. omega arith) old.wanted.items before.below) (omega arith));
+        (All-push (λ f. f < n + 1) old.wanted.items n
+        (All-weaker (λ f. f < n) (λ f. f < n + 1) (λ f lt. omega arith) old.wanted.items before.below) (omega arith));
     files = subst (All (IsFile view)) (sym added) (All-push (IsFile view) old.wanted.items n before.files is-file);
     unasked = below-cases (λ f. ¬ (Contains new.wanted.items f) → Asked view f) n
-        (λ f lt un. before.unasked f lt (λ c. un (subst (λ xs. Contains xs f) (sym added) (Contains-append_left old.wanted.items (n ∷ []) f c))))
+        (λ f lt un. before.unasked f lt
+        (λ c. un (subst (λ xs. Contains xs f) (sym added) (Contains-append_left old.wanted.items (n ∷ []) f c))))
         (λ un. absurd (un (subst (λ xs. Contains xs n) (sym added) (Contains-push old.wanted.items n))));
   }
 
   -- no name of the file stands in $Extend
-  outside : list_any (λ note. note.directory == EXTEND) names.noted ≡ false → All (λ name. name.parent.number ≢ EXTEND) (names_of (records_of view) n)
+  outside : list_any (λ note. note.directory == EXTEND) names.noted ≡ false
+      → All (λ name. name.parent.number ≢ EXTEND) (names_of (records_of view) n)
   outside none =
       let all : All (λ (l : Link). l.name.parent.number ≢ EXTEND) (map (link_noted view) names.noted) =
       All-map (λ (l : Link). l.name.parent.number ≢ EXTEND) (link_noted view) names.noted (λ k d lt same.
@@ -182,7 +193,8 @@ module _ (view : VolumeView) (n : ℕ) (file : BaseFile) (old new : Noting) (ref
       let linked_all : All (λ (l : Link). l.name.parent.number ≢ EXTEND) (map (linked (reference_in reference)) listed) =
       subst (All (λ (l : Link). l.name.parent.number ≢ EXTEND)) (names.links ∙ ap (map (linked (reference_in reference))) names-are) all in
       λ k d lt.
-      All-contains (λ (l : Link). l.name.parent.number ≢ EXTEND) (map (linked (reference_in reference)) listed) (linked (reference_in reference) (get_or listed k d))
+      All-contains (λ (l : Link). l.name.parent.number ≢ EXTEND) (map (linked (reference_in reference)) listed)
+      (linked (reference_in reference) (get_or listed k d))
       linked_all (Contains-map (linked (reference_in reference)) listed (get_or listed k d) (Contains-get_or listed k d lt))
 
   plain : (file.header.flags / 2 % 2 == 1) ≡ false → ¬ (IsTrue (is_directory base.0))
@@ -210,7 +222,8 @@ module _ (view : VolumeView) (n : ℕ) (file : BaseFile) (old new : Noting) (ref
 -- ONE FILE, WHOSE INDEXES NEED NOT BE LOOKED AT
 
 -- what was added to a list stands behind what it had
-rest-added : (old noted all : List NameNote) (from : ℕ) → from ≡ length old → all ≡ old ++ noted → take (length all - from) (drop from all) ≡ noted
+rest-added : (old noted all : List NameNote) (from : ℕ) → from ≡ length old → all ≡ old ++ noted
+    → take (length all - from) (drop from all) ≡ noted
 rest-added old noted all from start added =
     take_rest all from ∙ ap (drop from) added ∙ drop_at old noted from (sym start)
 
@@ -220,7 +233,8 @@ module _ (view : VolumeView) (n : ℕ) (file : BaseFile) (old new : Noting) (ref
   -- by the test of what was added
   pub below-tested : (from : ℕ) → from ≡ length old.names.items → new.wanted.items ≡ old.wanted.items
       → ((file.header.flags / 2 % 2 == 1) || (n == SECURE)
-      || list_any (λ (note : NameNote). note.directory == EXTEND) (take (length new.names.items - from) (drop from new.names.items))) ≡ false
+      || list_any (λ (note : NameNote). note.directory == EXTEND) (take (length new.names.items - from) (drop from new.names.items)))
+      ≡ false
       → NotesBelow view n old → NotesBelow view (n + 1) new
   below-tested from start same test before =
       let each = not-either _ _ _ test in

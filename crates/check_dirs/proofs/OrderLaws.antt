@@ -1,5 +1,6 @@
 -- The order of entries, by their places and as lists.
-use Rattle.std.proofs.Common.{◌≡◌, ℕ, zero, suc, ◌+◌, ◌<◌, ◌≤◌, List, [], ◌∷◌, Bool, length, get_or, ap, ◌∙◌, subst, inl, inr, arith, below_more}
+use Rattle.std.proofs.Common.{◌≡◌, ℕ, zero, suc, ◌+◌, ◌<◌, ◌≤◌, List, [], ◌∷◌, Bool, length, get_or, ap, ◌∙◌, subst, inl}
+use Rattle.std.proofs.Common.{inr, arith, below_more}
 use Rattle.std.specs.Prelude.{All, IsTrue}
 use Rattle.std.proofs.lemmas.Bool.{cases_lt}
 use Rattle.std.proofs.lemmas.List.Elements.{All-cons, All-head, All-nil, All-tail}
@@ -76,10 +77,12 @@ module _ (order : List ℕ → List ℕ → Ordering) (laws : IsTotalOrder order
   below_later (e ∷ entries) (suc i) (suc j) h k l = below_later entries i j h.1 (omega arith) (omega arith)
 
   -- On the sides of a key that is sought.
-  module _ (entries : List (List ℕ)) (ascends : Ascends order (items_in entries)) (key : List ℕ) (middle : ℕ) (inside : middle < length entries) where
+  module _ (entries : List (List ℕ)) (ascends : Ascends order (items_in entries)) (key : List ℕ) (middle : ℕ)
+      (inside : middle < length entries) where
     pub all_below : order (key_at entries middle) key ≡ Less → (k : ℕ) → k < middle + 1 → order (key_at entries k) key ≡ Less
     all_below here = below_more (λ k. order (key_at entries k) key ≡ Less) middle
-        (λ k before. laws.trans (key_at entries k) (key_at entries middle) key (below_later entries k middle ascends before inside) here) here
+        (λ k before. laws.trans (key_at entries k) (key_at entries middle) key (below_later entries k middle ascends before inside) here)
+        here
 
     pub all_above : order (key_at entries middle) key ≡ Greater → (k : ℕ) → middle ≤ k → k < length entries
         → order (key_at entries k) key ≡ Greater

@@ -1,5 +1,6 @@
 -- Entries whose names ascend, those of them that are marked, and the names of a directory.
-use Rattle.std.proofs.Common.{◌≡◌, ◌≢◌, ℕ, zero, suc, ◌+◌, ◌<◌, ◌≤◌, Bool, Some, None, true, false, cond, List, [], ◌∷◌, ◌++◌, length, map, get_or, set, replicate, refl, sym, ap, ◌∙◌, inl, inr, arith}
+use Rattle.std.proofs.Common.{◌≡◌, ◌≢◌, ℕ, zero, suc, ◌+◌, ◌<◌, ◌≤◌, Bool, Some, None, true, false, cond, List, [], ◌∷◌, ◌++◌, length, map}
+use Rattle.std.proofs.Common.{get_or, set, replicate, refl, sym, ap, ◌∙◌, inl, inr, arith}
 use Rattle.std.specs.Prelude.{All, IsTrue}
 use Rattle.std.specs.Coded.{Coded, code_by, coded_list, coded_ℕ, coded×}
 use Rattle.std.specs.List.{Contains, count_by}
@@ -97,7 +98,8 @@ each_marks (mark ∷ marks) h (suc i) d k = each_marks marks h.1 i d (omega arit
 pub links_all : {A : Type 0} (marks : List Bool) (xs links : List A) → length marks ≡ length xs → SameItems (marked marks xs) links
     → All (λ mark. IsTrue mark) marks → SameItems xs links
 links_all marks xs links size met all =
-    SameItems-trans xs (marked marks xs) links (SameItems-same xs (marked marks xs) (sym (marked_all marks xs size (marks_each marks all)))) met
+    SameItems-trans xs (marked marks xs) links
+    (SameItems-same xs (marked marks xs) (sym (marked_all marks xs size (marks_each marks all)))) met
 
 pub all_links : {A : Type 0} (marks : List Bool) (xs links : List A) → length marks ≡ length xs → SameItems (marked marks xs) links
     → SameItems xs links → All (λ mark. IsTrue mark) marks
@@ -125,7 +127,8 @@ marked_link marks xs links i d x m h e is met = record {
 
 -- A link is told from all others by its numbers.
 reference_code : Coded Reference
-reference_code = code_by (ℕ × ℕ) (coded× coded_ℕ coded_ℕ) (λ r. (r.number, r.sequence)) (λ p. record { number = p.0; sequence = p.1 }) (λ _. refl)
+reference_code = code_by (ℕ × ℕ) (coded× coded_ℕ coded_ℕ) (λ r. (r.number, r.sequence))
+    (λ p. record { number = p.0; sequence = p.1 }) (λ _. refl)
 
 name_code : Coded FileName
 name_code = code_by (Reference × (ℕ × List ℕ)) (coded× reference_code (coded× coded_ℕ (coded_list coded_ℕ)))
@@ -214,7 +217,8 @@ module _ (fold : ℕ → ℕ) (entries : List (List ℕ)) (names : AreNames fold
       let size = link_count entries in
       let within : there.0 < length entries = omega (arith, there.1) in
       none there.0 within
-      ((name_ties fold (key_at entries there.0) key).1 (said_units there.0 (sym (link_at entries there.0 (link_with file key) within) ∙ there.2)))
+      ((name_ties fold (key_at entries there.0) key).1
+      (said_units there.0 (sym (link_at entries there.0 (link_with file key) within) ∙ there.2)))
 
   module _ (i : ℕ) (here : IsPlace side entries (Some i)) where
     pub place_units : key_units (key_at entries i) ≡ key_units key
@@ -228,7 +232,8 @@ module _ (fold : ℕ → ℕ) (entries : List (List ℕ)) (names : AreNames fold
     lacks_link other links rest same =
         let size = link_count entries in
         other
-        (same_passing (has_units (key_units key)) (links_of_entries entries) (link_of (item_in (get_or entries i []))) (link_with file key) once
+        (same_passing (has_units (key_units key)) (links_of_entries entries) (link_of (item_in (get_or entries i [])))
+        (link_with file key) once
         (i, omega (arith, here.0), link_at entries i (link_of (item_in (get_or entries i []))) here.0) here_passes
         (at_place links rest same) own_units)
 

@@ -1,5 +1,6 @@
 -- Notes that are sorted by their directories.
-use Rattle.std.proofs.Common.{◌≡◌, ◌<◌, ◌≤◌, ◌==◌, ◌+◌, ◌-◌, ◌&&◌, ℕ, Bool, true, false, cond, not, List, [], ◌∷◌, length, map, filter, get_or, take, drop, None, IfSome, IsTrue, inl, inr, refl, sym, ap, subst, ◌∙◌, arith}
+use Rattle.std.proofs.Common.{◌≡◌, ◌<◌, ◌≤◌, ◌==◌, ◌+◌, ◌-◌, ◌&&◌, ℕ, Bool, true, false, cond, not, List, [], ◌∷◌, length, map, filter}
+use Rattle.std.proofs.Common.{get_or, take, drop, None, IfSome, IsTrue, inl, inr, refl, sym, ap, subst, ◌∙◌, arith}
 use Rattle.std.specs.Prelude.{nat_le, nat_lt}
 use Rattle.std.specs.List.{All, AllPairs, Contains, flat_map, range_with_len}
 use Rattle.std.specs.List.Sorted.{IsStableByKey, ties}
@@ -60,16 +61,23 @@ linked-filter view directory (note ∷ notes) all =
     let same : is_in_directory directory (link_noted view note) ≡ (note.directory == directory) = ap (λ n. n == directory) here.directory in
     elim (cases_Bool (note.directory == directory)) [
       | inl t ↦
-          ap (λ b. map (link_noted view) (cond b (note ∷ filter (λ (n : NameNote). n.directory == directory) notes) (filter (λ (n : NameNote). n.directory == directory) notes))) t
+          ap (λ b. map (link_noted view)
+          (cond b (note ∷ filter (λ (n : NameNote). n.directory == directory) notes)
+          (filter (λ (n : NameNote). n.directory == directory) notes))) t
           ∙ ap (λ ls. link_noted view note ∷ ls) behind
-          ∙ sym (ap (λ b. cond b (link_noted view note ∷ filter (is_in_directory directory) (map (link_noted view) notes)) (filter (is_in_directory directory) (map (link_noted view) notes))) (same ∙ t))
+          ∙ sym (ap (λ b. cond b (link_noted view note ∷ filter (is_in_directory directory) (map (link_noted view) notes))
+          (filter (is_in_directory directory) (map (link_noted view) notes))) (same ∙ t))
       | inr e ↦
-          ap (λ b. map (link_noted view) (cond b (note ∷ filter (λ (n : NameNote). n.directory == directory) notes) (filter (λ (n : NameNote). n.directory == directory) notes))) e
+          ap (λ b. map (link_noted view)
+          (cond b (note ∷ filter (λ (n : NameNote). n.directory == directory) notes)
+          (filter (λ (n : NameNote). n.directory == directory) notes))) e
           ∙ behind
-          ∙ sym (ap (λ b. cond b (link_noted view note ∷ filter (is_in_directory directory) (map (link_noted view) notes)) (filter (is_in_directory directory) (map (link_noted view) notes))) (same ∙ e))
+          ∙ sym (ap (λ b. cond b (link_noted view note ∷ filter (is_in_directory directory) (map (link_noted view) notes))
+          (filter (is_in_directory directory) (map (link_noted view) notes))) (same ∙ e))
     ]
 
-all-links : (view : VolumeView) → flat_map (λ f. links_of_file (records_of view) f (record_on view f)) (range_with_len 0 view.layout.count) ≡ links (records_of view)
+all-links : (view : VolumeView) → flat_map (λ f. links_of_file (records_of view) f (record_on view f)) (range_with_len 0 view.layout.count)
+    ≡ links (records_of view)
 unfolding links
 all-links view = refl
 
@@ -79,7 +87,8 @@ past-asked view f past =
     let none : record_on view f ≡ None = ap (λ b. cond b (record_in f (view.block f)) None) (le-ltb f view.layout.count past) in
     subst (λ o. IfSome o (λ r. IsTrue (is_base r) → IsUnasked view f r)) (sym none) tt
 
-pub all-noted : (view : VolumeView) (old : Noting) (new : Notes) → NotesBelow view view.layout.count old → SortsNotes old new → AreNotes view new
+pub all-noted : (view : VolumeView) (old : Noting) (new : Notes) → NotesBelow view view.layout.count old
+    → SortsNotes old new → AreNotes view new
 all-noted view old new below sorts = record {
   links = λ directory.
       ap (map (link_noted view)) (sorts.stable directory)
@@ -104,7 +113,8 @@ module _ (directory start own : ℕ) (xs : List NameNote) (inside : start ≤ le
     (low : (k : ℕ) (d : NameNote) → k < start → nat_lt (get_or xs k d).directory directory ≡ true)
     (high : (k : ℕ) (d : NameNote) → start ≤ k → k < length xs → nat_lt (get_or xs k d).directory directory ≡ false)
     (upto : (k : ℕ) (d : NameNote) → k < own → nat_le (get_or (drop start xs) k d).directory directory ≡ true)
-    (past : (k : ℕ) (d : NameNote) → own ≤ k → k < length (drop start xs) → nat_le (get_or (drop start xs) k d).directory directory ≡ false) where
+    (past : (k : ℕ) (d : NameNote) → own ≤ k → k < length (drop start xs)
+    → nat_le (get_or (drop start xs) k d).directory directory ≡ false) where
   below : (k : ℕ) (d : NameNote) → k < start → (get_or xs k d).directory < directory
   below k d lt = ltb-true _ _ (low k d lt)
 
@@ -129,7 +139,8 @@ module _ (directory start own : ℕ) (xs : List NameNote) (inside : start ≤ le
   cut-own =
       let e : start + own - start ≡ own = omega arith in
       ap (λ k. take k (drop start xs)) (sym e)
-      ∙ sym (filter-between (λ (note : NameNote). note.directory == directory) xs start (start + own) (omega arith) (omega (arith, length-drop start xs))
+      ∙ sym (filter-between (λ (note : NameNote). note.directory == directory) xs start (start + own) (omega arith)
+      (omega (arith, length-drop start xs))
       (λ k d lt. ne_eqb _ _ (λ same. let l = below k d lt in absurd (omega arith)))
       (λ k d ge lt. eq-eqb _ _ (let a = from-here k d ge (omega (arith, length-drop start xs)) in let b = up-to k d ge lt in omega arith))
       (λ k d ge lt. ne_eqb _ _ (λ same. let l = above k d ge lt in absurd (omega arith))))

@@ -1,7 +1,8 @@
 -- The records under a child hold one tree of a depth, and a tree by the list of its branches.
 use Rattle.std.proofs.Common.{◌≡◌, ℕ, zero, suc, ◌+◌, ◌≤◌, List, [], ◌∷◌, ◌++◌, Option, map, take, refl, sym, ap, ◌∙◌, arith, append_assoc}
 use Rattle.ntfs_def.specs.Node.{Item, Entry, Node, child_from}
-use Rattle.ntfs_def.specs.IndexTree.{Nodes, Branch, Spread, Vertex, Tree, Each, EachBelow, branch_items, branch_times, child_of, entry_of, node_of, IsStored, AreStored}
+use Rattle.ntfs_def.specs.IndexTree.{Nodes, Branch, Spread, Vertex, Tree, Each, EachBelow, branch_items, branch_times, child_of, entry_of}
+use Rattle.ntfs_def.specs.IndexTree.{node_of, IsStored, AreStored}
 use Rattle.list_laws.proofs.OptionLaws.{some_same}
 use Rattle.index_tree.proofs.IndexTreeLaws.{below_at, child_below}
 

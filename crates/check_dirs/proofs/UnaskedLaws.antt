@@ -1,5 +1,6 @@
 -- Numbers of whose indexes nothing is asked meet the clause on indexes.
-use Rattle.std.proofs.Common.{◌≡◌, ◌≢◌, ◌+◌, ◌&&◌, ℕ, Bool, false, cond, List, [], ◌∷◌, length, filter, Option, Some, None, IsSomeAnd, IfSome, IsTrue, inl, inr, refl, sym, ap, subst, ◌∙◌, arith}
+use Rattle.std.proofs.Common.{◌≡◌, ◌≢◌, ◌+◌, ◌&&◌, ℕ, Bool, false, cond, List, [], ◌∷◌, length, filter, Option, Some, None, IsSomeAnd}
+use Rattle.std.proofs.Common.{IfSome, IsTrue, inl, inr, refl, sym, ap, subst, ◌∙◌, arith}
 use Rattle.std.specs.Prelude.{codes, is_none, unwrap_or}
 use Rattle.std.specs.List.{All, count_by, range_with_len}
 use Rattle.std.specs.Option.{option_map}
@@ -13,7 +14,8 @@ use Rattle.ntfs_def.specs.Record.{Reference}
 use Rattle.ntfs_def.specs.Units.{wide}
 use Rattle.volume_def.specs.FileNames.{names_of}
 use Rattle.volume_def.specs.Files.{Record, file_of, is_base, is_directory, is_of, parts, parts_in, record_on, records_of}
-use Rattle.volume_def.specs.IndexesClause.{IsDirectoryIndex, KeyRule, MeetsIndexes, MeetsViewIndex, StandsInExtend, hash_rule, id_rule, is_in_extend, word_rule}
+use Rattle.volume_def.specs.IndexesClause.{IsDirectoryIndex, KeyRule, MeetsIndexes, MeetsViewIndex, StandsInExtend, hash_rule}
+use Rattle.volume_def.specs.IndexesClause.{id_rule, is_in_extend, word_rule}
 use Rattle.volume_def.specs.Readable.{IsFile}
 use Rattle.volume_def.specs.ReferencesClause.{HasRightReferences, MeetsReferences, NamesBase}
 use Rattle.volume_def.specs.View.{VolumeView}
@@ -32,7 +34,8 @@ module _ (view : VolumeView) (right : (n : ℕ) → MeetsReferences (records_of 
       un (subst (IsFile view) same (subst (λ o. IsSomeAnd o (λ s. IsTrue (is_base s))) (sym at) base))
   own-base n r (Some b) at some names same = un (subst (IsFile view) same (named (record_on view b.number) names))
     where
-      named : (o : Option Record) → IsSomeAnd o (λ s. IsTrue (is_base s) × (s.header.sequence ≡ b.sequence)) → IsSomeAnd o (λ s. IsTrue (is_base s))
+      named : (o : Option Record) → IsSomeAnd o (λ s. IsTrue (is_base s) × (s.header.sequence ≡ b.sequence))
+          → IsSomeAnd o (λ s. IsTrue (is_base s))
       named None there = there
       named (Some s) there = there.0
 
@@ -48,7 +51,8 @@ module _ (view : VolumeView) (right : (n : ℕ) → MeetsReferences (records_of 
 
   pub no-parts : parts (records_of view) f ≡ []
   unfolding parts
-  no-parts = flat_map-all_nil (λ n. parts_in (record_on view n) n f) (range_with_len 0 view.layout.count) (λ n. none-at n (record_on view n) refl)
+  no-parts = flat_map-all_nil (λ n. parts_in (record_on view n) n f) (range_with_len 0 view.layout.count)
+      (λ n. none-at n (record_on view n) refl)
 
   no-index : (name : List ℕ) (rule : KeyRule) → MeetsViewIndex view f name rule
   no-index name rule some =
@@ -72,16 +76,19 @@ module _ (view : VolumeView) (right : (n : ℕ) → MeetsReferences (records_of 
 
 -- WHERE NOTHING IS ASKED OF A FILE
 
-none-in-extend : (units : List ℕ) (names : List FileName) → All (λ name. name.parent.number ≢ EXTEND) names → count_by (is_in_extend units) names ≡ 0
+none-in-extend : (units : List ℕ) (names : List FileName) → All (λ name. name.parent.number ≢ EXTEND) names
+    → count_by (is_in_extend units) names ≡ 0
 none-in-extend units [] all = refl
 none-in-extend units (name ∷ names) all =
     let behind = none-in-extend units names (All-tail (λ (n : FileName). n.parent.number ≢ EXTEND) name names all) in
     let here : is_in_extend units name ≡ false =
-    ap (λ b. b && bytes_eq name.units units) (ne_eqb name.parent.number EXTEND (All-head (λ (n : FileName). n.parent.number ≢ EXTEND) name names all)) in
+    ap (λ b. b && bytes_eq name.units units)
+    (ne_eqb name.parent.number EXTEND (All-head (λ (n : FileName). n.parent.number ≢ EXTEND) name names all)) in
     count-none (is_in_extend units) name names here behind
   where
     count-none : (p : FileName → Bool) (x : FileName) (xs : List FileName) → p x ≡ false → count_by p xs ≡ 0 → count_by p (x ∷ xs) ≡ 0
-    count-none p x xs e rest = let z : 0 + count_by p xs ≡ 0 = omega (arith, rest) in count-cons p x xs ∙ ap (λ b. cond b 1 0 + count_by p xs) e ∙ z
+    count-none p x xs e rest = let z : 0 + count_by p xs ≡ 0 = omega (arith, rest) in
+        count-cons p x xs ∙ ap (λ b. cond b 1 0 + count_by p xs) e ∙ z
 
 stands-not : (view : VolumeView) (f : ℕ) (r : Record) → IsUnasked view f r → (units : List ℕ) → ¬ (StandsInExtend view f units)
 stands-not view f r unasked units stands =

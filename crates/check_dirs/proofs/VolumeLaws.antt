@@ -1,16 +1,19 @@
 -- The clause on indexes, from what is checked of one, and back.
-use Rattle.std.proofs.Common.{◌≡◌, ◌≢◌, ℕ, zero, suc, ◌≤◌, ◌==◌, List, [], ◌∷◌, map, Option, Some, None, cond, refl, sym, ap, subst, ◌∙◌, arith, inl, inr}
+use Rattle.std.proofs.Common.{◌≡◌, ◌≢◌, ℕ, zero, suc, ◌≤◌, ◌==◌, List, [], ◌∷◌, map, Option, Some, None, cond, refl, sym, ap, subst, ◌∙◌}
+use Rattle.std.proofs.Common.{arith, inl, inr}
 use Rattle.std.specs.Prelude.{IsSome}
 use Rattle.std.proofs.lemmas.Bool.{cases_Bool, eqb-false, eqb-true}
 use Rattle.vol_bytes.specs.Field.{u32_at}
 use Rattle.ntfs_def.specs.Fixup.{opened_of}
-use Rattle.ntfs_def.specs.IndexTree.{Nodes, Branch, Spread, Tree, AreStored, EachBelow, IsStored, branch_times, node_of, one_if, spread_times, times_in}
+use Rattle.ntfs_def.specs.IndexTree.{Nodes, Branch, Spread, Tree, AreStored, EachBelow, IsStored, branch_times, node_of}
+use Rattle.ntfs_def.specs.IndexTree.{one_if, spread_times, times_in}
 use Rattle.ntfs_def.specs.Node.{Item, Node, short_node}
 use Rattle.ntfs_def.specs.declared.index.NodeForm.{NodeForm}
 use Rattle.ntfs_def.specs.declared.index.NodeForm.TheVariants.{Names}
 use Rattle.ntfs_def.specs.FileName.{link_of}
 use Rattle.list_laws.specs.SameItems.{SameItems}
-use Rattle.volume_def.specs.IndexesClause.{HasIndex, IsDirectoryIndex, name_rule, IndexParts, IsIndexRecordAt, KeyRule, index_nodes, stored_index_record}
+use Rattle.volume_def.specs.IndexesClause.{HasIndex, IsDirectoryIndex, name_rule, IndexParts, IsIndexRecordAt}
+use Rattle.volume_def.specs.IndexesClause.{KeyRule, index_nodes, stored_index_record}
 use Rattle.volume_def.specs.View.{VolumeView}
 use Rattle.index_tree.proofs.MovedWalks.{spread_there, walks_moved}
 use Rattle.index_store.specs.Index.{HasParts}
@@ -21,7 +24,8 @@ use Rattle.check_dirs.specs.Records.{Records, short_nodes}
 use Rattle.check_dirs.proofs.ReadLaws.{at_record, no_record}
 
 -- The nodes of the records, and those of the volume.
-pub some_record : (form : NodeForm) (records : Records) (vcn : ℕ) (node : Node) → short_nodes form records vcn ≡ Some node → IsSome (records vcn)
+pub some_record : (form : NodeForm) (records : Records) (vcn : ℕ) (node : Node)
+    → short_nodes form records vcn ≡ Some node → IsSome (records vcn)
 some_record form records vcn node e = go (records vcn) refl
   where
     go : (o : Option (List ℕ)) → records vcn ≡ o → IsSome (records vcn)

@@ -1,5 +1,6 @@
 -- The files whose indexes have to be looked at, one by one.
-use Rattle.std.proofs.Common.{◌≡◌, ◌<◌, ◌≤◌, ◌+◌, ◌==◌, ℕ, zero, suc, List, [], ◌∷◌, length, get_or, take, inl, inr, sym, subst, ◌∙◌, arith, rules}
+use Rattle.std.proofs.Common.{◌≡◌, ◌<◌, ◌≤◌, ◌+◌, ◌==◌, ℕ, zero, suc, List, [], ◌∷◌, length, get_or, take, inl, inr, sym, subst}
+use Rattle.std.proofs.Common.{◌∙◌, arith, rules}
 use Rattle.std.specs.Prelude.{◌⊎◌}
 use Rattle.std.specs.List.{AllPairs, Contains}
 use Rattle.std.proofs.lemmas.Bool.{cases_Bool, cases_lt, eqb-false, eqb-true}
@@ -48,7 +49,11 @@ module _ (P : ℕ → Type 0) (wanted : List ℕ) (rising : AllPairs (λ f behin
   wanted-below k d inside each m lt = elim (contains wanted m) [
     | inr lacks ↦ others m lacks
     | inl has ↦ elim (cases_lt has.0 k) [
-      | inl before ↦ each m (has.0, (let all : has.0 < length wanted = has.1 in search (rules, arith)), get_or-take k wanted has.0 m before ∙ has.2)
+      | inl before ↦ each m (
+        has.0,
+        (let all : has.0 < length wanted = has.1 in search (rules, arith)),
+        get_or-take k wanted has.0 m before ∙ has.2,
+      )
       | inr from ↦ absurd (not_behind has.0 from has.1 has.2)
     ]
   ]
@@ -58,7 +63,8 @@ module _ (P : ℕ → Type 0) (wanted : List ℕ) (rising : AllPairs (λ f behin
           let own : get_or wanted k d ≡ get_or wanted k m = get_or_default wanted k d m inside in
           elim (cases_lt k j) [
             | inl lower ↦ let up : get_or wanted k m < get_or wanted j m = rising k j m lower far in absurd (omega arith)
-            | inr same ↦ let one : k ≡ j = omega arith in let that : get_or wanted k m ≡ m = subst (λ n. get_or wanted n m ≡ m) (sym one) is in absurd (omega arith)
+            | inr same ↦ let one : k ≡ j = omega arith in let that : get_or wanted k m ≡ m =
+                subst (λ n. get_or wanted n m ≡ m) (sym one) is in absurd (omega arith)
           ]
 
 -- one more is right

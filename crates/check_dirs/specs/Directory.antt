@@ -12,7 +12,8 @@ use Rattle.check_dirs.specs.Seen.{IsMet, links_of_entries}
 -- what an answer says of a link: it was met beside those before, or the entries are not those, this one, and whatever others
 abbrev pub MeetsLink : Bool → Seen → Seen → Link → Type 0
 MeetsLink true old new link = (links : List Link) → IsMet old links → IsMet new (links ++ link ∷ [])
-MeetsLink false old new link = (links rest : List Link) → IsMet old links → SameItems (links_of_entries old.entries.items) (links ++ link ∷ rest) → ⊥
+MeetsLink false old new link = (links rest : List Link) → IsMet old links
+    → SameItems (links_of_entries old.entries.items) (links ++ link ∷ rest) → ⊥
 
 -- the same of several
 abbrev pub MeetsLinks : Bool → Seen → Seen → List Link → Type 0

@@ -2,7 +2,8 @@
 use Rattle.std.specs.Prelude.{◌≡◌, ℕ, ◌+◌, ◌<◌, ◌≤◌, ◌==◌, Bool, true, false, List, ◌++◌, Option, Some, None, IsSome, length, if◌then◌else◌}
 use Rattle.std.specs.List.{AllPairs, list_any}
 use Rattle.ntfs_def.specs.Node.{Item, Node}
-use Rattle.ntfs_def.specs.IndexTree.{Nodes, Spread, Tree, Walks, child_of, node_of, items_of, one_if, times_in, IsStored, AreStored, spread_items, spread_times}
+use Rattle.ntfs_def.specs.IndexTree.{Nodes, Spread, Tree, Walks, child_of, node_of, items_of, one_if, times_in, IsStored}
+use Rattle.ntfs_def.specs.IndexTree.{AreStored, spread_items, spread_times}
 use Rattle.index_tree.specs.Walk.{items_in}
 use Rattle.check_dirs.specs.Records.{HasAtMost, Records}
 

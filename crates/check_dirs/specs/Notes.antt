@@ -42,7 +42,8 @@ notes_in directory notes = filter (λ note. note.directory == directory) notes.n
 -- The names of all files are noted, and the files whose indexes have to be looked at. Any other number meets the clause on
 -- indexes, where the clause on references holds.
 pub record AreNotes (view : VolumeView) (notes : Notes) : Type 0 where
-  pub links : (directory : ℕ) → map (link_noted view) (notes_in directory notes) ≡ filter (is_in_directory directory) (links (records_of view))
+  pub links : (directory : ℕ) → map (link_noted view) (notes_in directory notes)
+      ≡ filter (is_in_directory directory) (links (records_of view))
   pub noted : (directory : ℕ) → All (IsNoted view) (notes_in directory notes)
   pub rising : AllPairs (λ f behind. f < behind) notes.wanted.items
   pub files : All (IsFile view) notes.wanted.items

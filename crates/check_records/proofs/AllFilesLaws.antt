@@ -1,5 +1,6 @@
 -- The clause on lists over all files: those without a list, and those with one.
-use Rattle.std.proofs.Common.{◌≡◌, ◌<◌, ℕ, false, List, Option, Some, None, IfSome, IsSomeAnd, IsTrue, refl, sym, ap, subst, inl, inr, arith}
+use Rattle.std.proofs.Common.{◌≡◌, ◌<◌, ℕ, false, List, Option, Some, None, IfSome, IsSomeAnd, IsTrue, refl, sym, ap, subst}
+use Rattle.std.proofs.Common.{inl, inr, arith}
 use Rattle.std.specs.Prelude.{count_by, not}
 use Rattle.std.specs.List.{list_any}
 use Rattle.std.proofs.lemmas.Bool.{and_from, cases_Bool, cases_lt}

@@ -4,7 +4,8 @@ use Rattle.std.proofs.lemmas.Option.{none-some}
 use Rattle.vol_disk.specs.Contents.{sector_in}
 use Rattle.ntfs_def.specs.Boot.{boot_sector}
 use Rattle.volume_def.specs.Sound.{Clause, HasLayout, HoldBelow, IsAccepted, IsRefused, Meets, clause_number, rank_of, told_view}
-use Rattle.volume_def.specs.Sound.Clause.{Shape, Attributes, Lists, Extents, Owners, ClusterBits, RecordBits, References, Links, CaseTable, Indexes, Version, MirrorPlace, Mirror, Limits}
+use Rattle.volume_def.specs.Sound.Clause.{Shape, Attributes, Lists, Extents, Owners, ClusterBits, RecordBits, References, Links, CaseTable}
+use Rattle.volume_def.specs.Sound.Clause.{Indexes, Version, MirrorPlace, Mirror, Limits}
 use Rattle.volume_def.specs.Table.{TableLayout}
 use Rattle.volume_def.proofs.OneTable.{layout-exact}
 use Rattle.volume_def.proofs.SoundLaws.{IsAccepted-only, IsRefused-exact}

@@ -20,7 +20,8 @@ use Rattle.check_records.proofs.StreamLaws.{places-for}
 
 -- The bitmap of clusters, as it is noted.
 pub HasClusterBytes-noted : (view : VolumeView) (written : ℕ) → IsPlain (cluster_bits view) → HasNoHole (cluster_bits view)
-    → written ≡ min (told_size (first_part (cluster_bits view))) (written_by (first_part (cluster_bits view))) → HasClusterBytes view written
+    → written ≡ min (told_size (first_part (cluster_bits view))) (written_by (first_part (cluster_bits view)))
+    → HasClusterBytes view written
 HasClusterBytes-noted view written plain placed is = record {
   plain = plain;
   placed = placed;

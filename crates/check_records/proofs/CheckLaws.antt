@@ -17,7 +17,8 @@ use Rattle.check_records.specs.Views.{HasComeWith}
 use Rattle.check_records.proofs.FactsGiven.{RightNote-all}
 
 -- the check goes on to a later clause
-pub come-on : (view : VolumeView) (rank next : ℕ) (facts : Facts) → HasComeWith view rank facts → HoldBelow view next → HasComeWith view next facts
+pub come-on : (view : VolumeView) (rank next : ℕ) (facts : Facts) → HasComeWith view rank facts → HoldBelow view next
+    → HasComeWith view next facts
 come-on view rank next facts come before = record { volume = come.volume; noted = come.noted; before = before }
 
 -- no call at all

@@ -1,5 +1,6 @@
 -- The parts of a file whose records are held, one record after another, and what is asked of them.
-use Rattle.std.proofs.Common.{◌≡◌, ◌↔◌, ◌<◌, ◌≤◌, ◌+◌, ◌-◌, ◌++◌, ◌^◌, ℕ, Bool, not, List, [], ◌∷◌, Option, Some, None, IfSome, IsTrue, length, map, take, get_or, refl, sym, ap, subst, ◌∙◌, arith, append-nil, append_assoc, length-append}
+use Rattle.std.proofs.Common.{◌≡◌, ◌↔◌, ◌<◌, ◌≤◌, ◌+◌, ◌-◌, ◌++◌, ◌^◌, ℕ, Bool, not, List, [], ◌∷◌, Option, Some, None, IfSome, IsTrue}
+use Rattle.std.proofs.Common.{length, map, take, get_or, refl, sym, ap, subst, ◌∙◌, arith, append-nil, append_assoc, length-append}
 use Rattle.std.specs.Prelude.{All, IfNone, count_by}
 use Rattle.std.specs.Option.{option_to_list}
 use Rattle.std.proofs.lemmas.List.{length-map, map-append, take_more}
@@ -34,7 +35,8 @@ all_parts-more held i d lt =
     ap all_parts (take_more held i d lt) ∙ flat_map-append parts_of (take i held) (get_or held i d ∷ [])
     ∙ ap (λ xs. all_parts (take i held) ++ xs) (append-nil (parts_of (get_or held i d)))
 
-pub extents-more : (held : List Held) (i : ℕ) (d one : Held) (block : List ℕ) (old new : List Extent) → i < length held → one ≡ get_or held i d
+pub extents-more : (held : List Held) (i : ℕ) (d one : Held) (block : List ℕ) (old new : List Extent)
+    → i < length held → one ≡ get_or held i d
     → block ≡ one.block → ((n : ℕ) → map outlined new ≡ map outlined old ++ map outline_of (record_of n block).parts)
     → map outlined old ≡ map outline_of (all_parts (take i held)) → map outlined new ≡ map outline_of (all_parts (take (i + 1) held))
 extents-more held i d one block old new lt same is adds before =
@@ -44,7 +46,8 @@ extents-more held i d one block old new lt same is adds before =
     ∙ sym (map-append outline_of (all_parts (take i held)) (parts_of one))
     ∙ ap (map outline_of) (ap (λ h. all_parts (take i held) ++ parts_of h) same ∙ sym (all_parts-more held i d lt))
 
-pub entries_in-append : (records : Records) (xs ys : List Part) → entries_in records (xs ++ ys) ≡ entries_in records xs ++ entries_in records ys
+pub entries_in-append : (records : Records) (xs ys : List Part)
+    → entries_in records (xs ++ ys) ≡ entries_in records xs ++ entries_in records ys
 entries_in-append records xs ys =
     ap (map (entry_in records)) (filter-append (λ part. not (is_list part)) xs ys)
     ∙ map-append (entry_in records) (listed_parts xs) (listed_parts ys)
@@ -107,7 +110,8 @@ named-decided records parts wanted value right is few decided =
       λ h. decided.1 (subst (λ es. NamesEach es value) (sym is) h.1),
     )
 
-pub not-named : (records : Records) (parts : List Part) (wanted : List EntryView) (value : List ℕ) → map entry_shown wanted ≡ entries_in records parts
+pub not-named : (records : Records) (parts : List Part) (wanted : List EntryView) (value : List ℕ)
+    → map entry_shown wanted ≡ entries_in records parts
     → length wanted + 1 < length parts → (count_by is_list parts ≤ 1) × NamesEach (entries_in records parts) value → ⊥
 not-named records parts wanted value is many h =
     let a = lists-left records parts in
@@ -126,7 +130,8 @@ from-more records f extensions i d lt =
     ap (parts_from records f) (take_more extensions i d lt) ∙ flat_map-append g (take i extensions) (get_or extensions i d ∷ [])
     ∙ ap (λ xs. parts_from records f (take i extensions) ++ xs) (append-nil (g (get_or extensions i d)))
 
-pub held-more : (view : VolumeView) (f : ℕ) (base : List Part) (extensions : List Extension) (i : ℕ) (d : Extension) (old new : List Held) (found : Option Held)
+pub held-more : (view : VolumeView) (f : ℕ) (base : List Part) (extensions : List Extension) (i : ℕ) (d : Extension)
+    (old new : List Held) (found : Option Held)
     → i < length extensions → new ≡ old ++ option_to_list found
     → all_parts (option_to_list found) ≡ parts_in (record_on view (get_or extensions i d).number) (get_or extensions i d).number f
     → all_parts old ≡ base ++ parts_from (records_of view) f (take i extensions)
@@ -144,7 +149,8 @@ pub moved-parts : (old volume : VolumeView) (f base n : ℕ) (found : Option Hel
     → IsTrue volume.told → IsRecordOf volume base n → all_parts (option_to_list found) ≡ parts_in (record_on volume n) n base
 moved-parts old volume f base n found same number parts =
     subst (λ g. IsTrue volume.told → IsRecordOf volume g n → all_parts (option_to_list found) ≡ parts_in (record_on volume n) n g) number
-    (subst (λ (v : VolumeView). IsTrue v.told → IsRecordOf v f n → all_parts (option_to_list found) ≡ parts_in (record_on v n) n f) same parts)
+    (subst (λ (v : VolumeView). IsTrue v.told → IsRecordOf v f n
+    → all_parts (option_to_list found) ≡ parts_in (record_on v n) n f) same parts)
 
 pub each-more : (records : Records) (old new : List Held) (found : Option Held) → new ≡ old ++ option_to_list found
     → IfSome found (IsHeldIn records) → All (IsHeldIn records) old → All (IsHeldIn records) new
@@ -159,11 +165,13 @@ length-held next = ap length (append-nil (parts_of next)) ∙ length-map (attrib
 pub count-more : (own others more : ℕ) (old new : List Held) (next : Held) → new ≡ old ++ next ∷ [] → more ≡ length (attributes next.block)
     → own + others ≡ length (all_parts old) → own + (others + more) ≡ length (all_parts new)
 count-more own others more old new next added is before =
-    let a = ap length (ap all_parts added ∙ flat_map-append parts_of old (next ∷ [])) ∙ length-append (all_parts old) (all_parts (next ∷ [])) in
+    let a = ap length (ap all_parts added ∙ flat_map-append parts_of old (next ∷ []))
+    ∙ length-append (all_parts old) (all_parts (next ∷ [])) in
     let b = length-held next in
     omega arith
 
-pub many-parts : (view : VolumeView) (f : ℕ) (base : List Part) (extensions : List Extension) (i : ℕ) (d : Extension) (old : List Held) (next : Held)
+pub many-parts : (view : VolumeView) (f : ℕ) (base : List Part) (extensions : List Extension) (i : ℕ) (d : Extension)
+    (old : List Held) (next : Held)
     (own others more : ℕ) → i < length extensions → own ≡ length base → own + others ≡ length (all_parts old)
     → all_parts (next ∷ []) ≡ parts_in (record_on view (get_or extensions i d).number) (get_or extensions i d).number f
     → all_parts old ≡ base ++ parts_from (records_of view) f (take i extensions) → more ≡ length (attributes next.block) → others ≤ 10082

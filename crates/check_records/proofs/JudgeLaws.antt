@@ -25,7 +25,8 @@ entries-same records xs ys same =
     SameItems-map (entry_in records) (listed_parts xs) (listed_parts ys) (SameItems-filter (λ part. not (is_list part)) xs ys same)
 
 pub names-same : (view : VolumeView) (f : ℕ) (held : List Part) (value : List ℕ) (right : Bool) → SameItems held (parts (records_of view) f)
-    → IsTrue right ↔ (count_by is_list held ≤ 1) × NamesEach (entries_in (records_of view) held) value → IsTrue right ↔ NamesParts view f value
+    → IsTrue right ↔ (count_by is_list held ≤ 1) × NamesEach (entries_in (records_of view) held) value
+    → IsTrue right ↔ NamesParts view f value
 names-same view f held value right same decided =
     let all = parts (records_of view) f in
     let count = same.counts is_list in
@@ -47,14 +48,16 @@ names-same view f held value right same decided =
             omega arith,
             record {
               shape = n.names.shape;
-              each_once = SameItems-trans (entries_in (records_of view) held) (entries_in (records_of view) all) (list_entries value) entries n.names.each_once;
+              each_once = SameItems-trans (entries_in (records_of view) held) (entries_in (records_of view) all)
+                  (list_entries value) entries n.names.each_once;
             },
           ),
     )
 
 -- the records that are held have all parts
 pub held-all : (view : VolumeView) (base : Held) (extensions : List Extension) (held : List Held) → IsBaseHeld view base extensions
-    → all_parts held ≡ parts_of base ++ parts_from (records_of view) base.number extensions → SameItems (all_parts held) (parts (records_of view) base.number)
+    → all_parts held ≡ parts_of base ++ parts_from (records_of view) base.number extensions
+    → SameItems (all_parts held) (parts (records_of view) base.number)
 held-all view base extensions held is same = subst (λ xs. SameItems xs (parts (records_of view) base.number)) (sym same) is.all
 
 -- Too many parts are not named.

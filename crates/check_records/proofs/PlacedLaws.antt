@@ -1,5 +1,6 @@
 -- A list of a record, as its numbers and its text tell it: whether it lies whole on the volume, and its value.
-use Rattle.std.proofs.Common.{Vec, Global, ◌≡◌, ◌<◌, ◌≤◌, ℕ, false, List, Option, Some, None, IfSome, IsSome, length, map, refl, sym, ap, subst, ◌∙◌, arith}
+use Rattle.std.proofs.Common.{Vec, Global, ◌≡◌, ◌<◌, ◌≤◌, ℕ, false, List, Option, Some, None, IfSome, IsSome, length, map, refl, sym, ap}
+use Rattle.std.proofs.Common.{subst, ◌∙◌, arith}
 use Rattle.std.specs.Prelude.{IfNone}
 use Rattle.std.specs.List.{range_with_len}
 use Rattle.std.specs.Option.{option_map}
@@ -37,7 +38,8 @@ module _ (view : VolumeView) (n : ℕ) (a : Attribute) (sizes : Sizes) (text : L
   pub lies-runs : Lies view (part_of n a) → (runs : List Run) × (runs_in text ≡ Some runs)
   lies-runs lies =
       let w = clusters-content a.body sizes text numbers its_text in
-      some-is (runs_in text) (subst (λ content. IsSome (content_runs content)) w.1 (lies-at view (part_of n a) w.0 (runs_in text) w.1 lies).text)
+      some-is (runs_in text)
+      (subst (λ content. IsSome (content_runs content)) w.1 (lies-at view (part_of n a) w.0 (runs_in text) w.1 lies).text)
     where
       some-is : {X : Type 0} (o : Option X) → IsSome o → (x : X) × (o ≡ Some x)
       some-is None h = cc
@@ -50,7 +52,8 @@ module _ (view : VolumeView) (n : ℕ) (a : Attribute) (sizes : Sizes) (text : L
       let w = clusters-content a.body sizes text numbers its_text in
       let e : (part_of n a).content ≡ Clusters w.0 (Some runs) = w.1 ∙ ap (Clusters w.0) is in
       list_value-clusters (part_of n a) w.0 runs e (lies-at view (part_of n a) w.0 (Some runs) e lies).from_start view
-      ∙ ap (λ (s : Sizes). map (value_byte view.cluster (cluster_bytes view.layout) (spot_of runs) s.initialized) (range_with_len 0 s.real)) w.2
+      ∙ ap (λ (s : Sizes). map (value_byte view.cluster (cluster_bytes view.layout) (spot_of runs) s.initialized) (range_with_len 0 s.real))
+      w.2
 
   pub value-length : Lies view (part_of n a) → length (list_value view (part_of n a)) ≡ sizes.real
   value-length lies =
@@ -62,7 +65,8 @@ module _ (view : VolumeView) (n : ℕ) (a : Attribute) (sizes : Sizes) (text : L
 
 -- What is found of a list that lies there.
 
-pub placed-some : (view : VolumeView) (part : Part) (found : Option (Vec ℕ Global)) → is_packed part.kind part.flags ≡ false → Lies view part
+pub placed-some : (view : VolumeView) (part : Part) (found : Option (Vec ℕ Global))
+    → is_packed part.kind part.flags ≡ false → Lies view part
     → IfSome found (λ value. (length value.items ≤ 262144) × (value.items ≡ list_value view part))
     → IfSome found (λ value. IsPlacedList view part × (value.items ≡ list_value view part))
 placed-some view part None plain lies h = tt

@@ -4,7 +4,8 @@ use Rattle.std.specs.Prelude.{is_some}
 use Rattle.vol_disk.specs.Contents.{WhereTold, sector_in}
 use Rattle.ntfs_def.specs.Boot.{boot_sector}
 use Rattle.volume_def.specs.Sound.{Clause, HasLayout, clause_number, rank_of}
-use Rattle.volume_def.specs.Sound.Clause.{Shape, Attributes, Lists, Extents, Owners, ClusterBits, RecordBits, References, Links, CaseTable, Indexes, Version, MirrorPlace, Mirror, Limits}
+use Rattle.volume_def.specs.Sound.Clause.{Shape, Attributes, Lists, Extents, Owners, ClusterBits, RecordBits, References, Links, CaseTable}
+use Rattle.volume_def.specs.Sound.Clause.{Indexes, Version, MirrorPlace, Mirror, Limits}
 use Rattle.volume_def.specs.Table.{TableLayout}
 use Rattle.volume_def.specs.View.{view_of}
 use Rattle.mft_table.specs.MountNos.{no_table}

@@ -69,15 +69,22 @@ module _ (view : VolumeView) (base : Held) (held : IsHeldIn (records_of view) ba
           (λ (e : Extension). IsRecordOf view base.number e.number)
           (λ e belongs.
           let w = some-value (record_on view e.number) (λ r. file_of e.number r ≡ base.number) belongs in
-          record { belongs = belongs; well_formed = shape e.number (record_at-inside view e.number w.0 w.1) (record_at-in_use view e.number w.0 w.1) })
+          record {
+            belongs = belongs;
+            well_formed =
+                shape e.number (record_at-inside view e.number w.0 w.1) (record_at-in_use view e.number w.0 w.1);
+          })
           extensions (extension-own (records_of view) base.number extensions own);
-      all = parts-own (records_of view) base.number own_record extensions held.at its-lists.0 (record_at-inside view base.number own_record held.at) own;
-      lists = count-some is_list (parts_of base) (part_of base.number a) (Contains-map (part_of base.number) (attributes base.block) a place.0) place.1;
+      all = parts-own (records_of view) base.number own_record extensions held.at its-lists.0
+          (record_at-inside view base.number own_record held.at) own;
+      lists = count-some is_list (parts_of base) (part_of base.number a)
+          (Contains-map (part_of base.number) (attributes base.block) a place.0) place.1;
     }
 
     list-right : HasRightList view base.number (parts (records_of view) base.number)
         → IsRightList view base.number (parts (records_of view) base.number) (part_of base.number a)
-    list-right right = All-contains (λ part. IsTrue (is_list part) → IsRightList view base.number (parts (records_of view) base.number) part)
+    list-right right = All-contains (λ part. IsTrue (is_list part)
+        → IsRightList view base.number (parts (records_of view) base.number) part)
         (parts (records_of view) base.number) (part_of base.number a) right.each here place.1
 
     pub right-placed : HasRightList view base.number (parts (records_of view) base.number) → IsPlacedList view (part_of base.number a)
@@ -103,7 +110,8 @@ module _ (view : VolumeView) (base : Held) (held : IsHeldIn (records_of view) ba
         record {
           few = named.few;
           each = All-from_Contains (λ part. IsTrue (is_list part) → IsRightList view base.number all part) all (λ part c t.
-              subst (IsRightList view base.number all) (same_passing is_list all (part_of base.number a) part named.few here place.1 c t) (record {
+              subst (IsRightList view base.number all)
+              (same_passing is_list all (part_of base.number a) part named.few here place.1 c t) (record {
                 home = refl;
                 plain = placed.plain;
                 readable = record { placed = placed.placed; short = placed.short; shape = names.shape };

@@ -1,5 +1,6 @@
 -- A stream by what is noted of it: what is read of its clusters, and its value.
-use Rattle.std.proofs.Common.{◌≡◌, ◌⊎◌, ◌<◌, ◌≤◌, ◌+◌, ◌-◌, ◌*◌, ◌/◌, ◌%◌, ℕ, true, false, cond, ltb, List, [], ◌++◌, length, map, replicate, min, Option, Some, None, refl, sym, ap, subst, inl, inr, ◌∙◌, length-append, arith}
+use Rattle.std.proofs.Common.{◌≡◌, ◌⊎◌, ◌<◌, ◌≤◌, ◌+◌, ◌-◌, ◌*◌, ◌/◌, ◌%◌, ℕ, true, false, cond, ltb, List, [], ◌++◌, length, map}
+use Rattle.std.proofs.Common.{replicate, min, Option, Some, None, refl, sym, ap, subst, inl, inr, ◌∙◌, length-append, arith}
 use Rattle.std.specs.Prelude.{IfSome, IsSomeAnd, slice_index}
 use Rattle.std.specs.Int.{div_ceil}
 use Rattle.std.specs.List.{range_with_len}
@@ -15,7 +16,8 @@ use Rattle.volume_def.specs.BitmapClauses.{written_by, written_in}
 use Rattle.volume_def.specs.Files.{Clusters, Content, Part, Value, content_value}
 use Rattle.volume_def.specs.StreamSize.{real_size, told_size}
 use Rattle.volume_def.specs.Table.{cluster_bytes}
-use Rattle.volume_def.specs.Values.{byte_there, first_part, pieces_touched, spot_at, stored_byte, stored_bytes, value_by, value_byte, value_of_parts, value_on, value_over}
+use Rattle.volume_def.specs.Values.{byte_there, first_part, pieces_touched, spot_at, stored_byte, stored_bytes, value_by, value_byte}
+use Rattle.volume_def.specs.Values.{value_of_parts, value_on, value_over}
 use Rattle.volume_def.specs.View.{VolumeView}
 use Rattle.mft_table.specs.Streams.{spot_on}
 use Rattle.list_laws.proofs.RangeLaws.{map_ranges, bytes-zero, by-rule, past-rule}
@@ -125,7 +127,8 @@ resident-in : (view : VolumeView) (extents : List Part) (value : List ℕ) (told
     → IsSomeAnd told (λ p. content_value p.content ≡ Some value)
     → value_over view.cluster (cluster_bytes view.layout) extents told ≡ value
 resident-in view extents value None is = absurd is
-resident-in view extents value (Some part) is = ap (value_by view.cluster (cluster_bytes view.layout) extents) (value-of part.content value is)
+resident-in view extents value (Some part) is =
+    ap (value_by view.cluster (cluster_bytes view.layout) extents) (value-of part.content value is)
 
 pub value-resident : (view : VolumeView) (extents : List Part) (value : List ℕ)
     → IsSomeAnd (first_part extents) (λ p. content_value p.content ≡ Some value) → value_on view extents ≡ value

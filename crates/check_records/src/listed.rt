@@ -1,6 +1,7 @@
 //! A file that has an attribute list, judged: whether its list names each part once (S5), and whether its attributes are whole
 //! (S6). Its records are read once for both.
-ghost use Rattle.std.specs.Prelude.{◌≡◌, ◌↔◌, ◌+◌, ◌*◌, ◌<◌, ◌≤◌, ◌++◌, ◌∷◌, [], ℕ, List, All, IfErr, IfNone, IfOk, IfSome, IsTrue, MatchResult, OnOk, count_by, length, map};
+ghost use Rattle.std.specs.Prelude.{◌≡◌, ◌↔◌, ◌+◌, ◌*◌, ◌<◌, ◌≤◌, ◌++◌, ◌∷◌, [], ℕ, List, All, IfErr, IfNone, IfOk, IfSome, IsTrue};
+ghost use Rattle.std.specs.Prelude.{MatchResult, OnOk, count_by, length, map};
 ghost use Rattle.std.specs.Option.{option_to_list};
 ghost use Rattle.volume_def.specs.Files.{Part, Records, content_extent, part_of, parts, parts_in, record_on, records_of};
 ghost use Rattle.volume_def.specs.ListsClause.{HasRightList, LiesOnVolume, entries_in, is_list, list_value};

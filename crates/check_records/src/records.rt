@@ -1,5 +1,6 @@
 //! The bitmap of records, read and compared with the records that are in use.
-ghost use Rattle.std.specs.Prelude.{◌≡◌, ◌↔◌, ◌+◌, ◌-◌, ◌*◌, ◌^◌, ◌/◌, ◌<◌, ◌≤◌, ℕ, List, IfErr, IfNone, IfOk, IsTrue, MatchResult, OnOk, length, min};
+ghost use Rattle.std.specs.Prelude.{◌≡◌, ◌↔◌, ◌+◌, ◌-◌, ◌*◌, ◌^◌, ◌/◌, ◌<◌, ◌≤◌, ℕ, List, IfErr, IfNone, IfOk, IsTrue, MatchResult};
+ghost use Rattle.std.specs.Prelude.{OnOk, length, min};
 ghost use Rattle.std.specs.Int.{div_ceil};
 ghost use Rattle.list_laws.specs.Bits.{flags_in};
 ghost use Rattle.volume_def.specs.BitmapClauses.{MeetsRecordBits, record_bits};

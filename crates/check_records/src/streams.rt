@@ -1,5 +1,6 @@
 //! What lies in the clusters of a stream, by what the pass noted of it: no record is read again, and no run text.
-ghost use Rattle.std.specs.Prelude.{◌≡◌, ◌+◌, ◌-◌, ◌*◌, ◌/◌, ◌<◌, ◌≤◌, ◌^◌, ◌++◌, Some, IfErr, IfOk, IsTrue, MatchResult, OnOk, drop, length, min};
+ghost use Rattle.std.specs.Prelude.{◌≡◌, ◌+◌, ◌-◌, ◌*◌, ◌/◌, ◌<◌, ◌≤◌, ◌^◌, ◌++◌, Some, IfErr, IfOk, IsTrue, MatchResult, OnOk};
+ghost use Rattle.std.specs.Prelude.{drop, length, min};
 ghost use Rattle.volume_def.specs.Table.{cluster_bytes};
 ghost use Rattle.volume_def.specs.Values.{pieces_touched, stored_bytes};
 ghost use Rattle.mft_table.specs.Mft.{MftReads, faults_of, view};

@@ -1,9 +1,11 @@
 -- How the clauses follow one another.
-use Rattle.std.proofs.Common.{◌≡◌, ◌<◌, ◌≤◌, ◌+◌, ℕ, Bool, true, false, List, [], ◌∷◌, Option, Some, None, IsTrue, inl, inr, get_or, refl, sym, ap, ◌∙◌, subst, arith}
+use Rattle.std.proofs.Common.{◌≡◌, ◌<◌, ◌≤◌, ◌+◌, ℕ, Bool, true, false, List, [], ◌∷◌, Option, Some, None, IsTrue, inl, inr, get_or, refl}
+use Rattle.std.proofs.Common.{sym, ap, ◌∙◌, subst, arith}
 use Rattle.std.specs.Prelude.{◌↔◌, IsFalse}
 use Rattle.std.proofs.lemmas.Bool.{cases_lt, false≢true}
 use Rattle.volume_def.specs.Sound.{Clause, HoldBelow, Holds, clause_number, rank_of}
-use Rattle.volume_def.specs.Sound.Clause.{Shape, Attributes, Lists, Extents, Owners, ClusterBits, RecordBits, References, Links, CaseTable, Indexes, Version, MirrorPlace, Mirror, Limits}
+use Rattle.volume_def.specs.Sound.Clause.{Shape, Attributes, Lists, Extents, Owners, ClusterBits, RecordBits, References, Links, CaseTable}
+use Rattle.volume_def.specs.Sound.Clause.{Indexes, Version, MirrorPlace, Mirror, Limits}
 use Rattle.volume_def.specs.View.{VolumeView}
 use Rattle.list_laws.specs.Least.{IsLeastFailing}
 use Rattle.clause_order.specs.Refusals.{DecidesFirst, IsFirstBroken}

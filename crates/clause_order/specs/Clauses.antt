@@ -1,7 +1,9 @@
 -- The clauses in code, by the names of the volume definition.
 use Rattle.volume_def.specs.Sound as sound
 use Rattle.clause_order.specs.declared.clause.Clause.{Clause}
-use Rattle.clause_order.specs.declared.clause.Clause.TheVariants.{Shape, Attributes, Lists, Extents, Owners, ClusterBits, RecordBits, References, Links, CaseTable, Indexes, Version, MirrorPlace, Mirror, Limits}
+use Rattle.clause_order.specs.declared.clause.Clause.TheVariants.{Shape, Attributes, Lists, Extents, Owners, ClusterBits, RecordBits}
+use Rattle.clause_order.specs.declared.clause.Clause.TheVariants.{References, Links, CaseTable, Indexes, Version}
+use Rattle.clause_order.specs.declared.clause.Clause.TheVariants.{MirrorPlace, Mirror, Limits}
 
 abbrev pub named : Clause → sound.Clause
 named Shape = sound.Shape

@@ -1,5 +1,6 @@
 -- Each line that is drawn is one that a script may say.
-use Rattle.std.proofs.Common.{◌≡◌, ◌<◌, ◌≤◌, ◌+◌, ◌*◌, ◌/◌, ◌%◌, ◌^◌, ◌==◌, ℕ, Bool, true, false, List, [], ◌∷◌, length, nat_le, decimal, replicate, Option, Some, None, Result, Ok, Err, refl, sym, ap, subst, ◌∙◌, arith, if◌then◌else◌}
+use Rattle.std.proofs.Common.{◌≡◌, ◌<◌, ◌≤◌, ◌+◌, ◌*◌, ◌/◌, ◌%◌, ◌^◌, ◌==◌, ℕ, Bool, true, false, List, [], ◌∷◌, length, nat_le, decimal}
+use Rattle.std.proofs.Common.{replicate, Option, Some, None, Result, Ok, Err, refl, sym, ap, subst, ◌∙◌, arith, if◌then◌else◌}
 use Rattle.std.specs.Prelude.{IfOk}
 use Rattle.std.proofs.lemmas.Fmt.{IsAscii-decimal, length-decimal-le_succ}
 use Rattle.std.proofs.lemmas.List.Elements.{All-cons, All-from_get_or, All-nil, All-replicate, All-weaker}
@@ -59,7 +60,8 @@ line-sayable what d g b few few_files below =
     by false false false false true = (path, file d 0x67 g few (omega arith) few_files)
     by false false false false false = (path, file ((d + 1) % 16) 0x66 g (omega arith) (omega arith) few_files)
 
-pub ok-sayable : (r : Result Command ScriptNo) (what d g b : ℕ) → IfOk r (λ command. command ≡ line_of what d g b) → d < 16 → g < 64 → b < 256
+pub ok-sayable : (r : Result Command ScriptNo) (what d g b : ℕ) → IfOk r (λ command. command ≡ line_of what d g b)
+    → d < 16 → g < 64 → b < 256
     → IfOk r IsSayable
 ok-sayable (Ok command) what d g b is few few_files below = subst IsSayable (sym is) (line-sayable what d g b few few_files below)
 ok-sayable (Err refused) what d g b is few few_files below = tt

@@ -10,7 +10,8 @@ use Rattle.cmd_lang.specs.declared.verb.Verb.TheVariants as verb
 use Rattle.cmd_lang.specs.Grammar.{AreWords, IsCommand, IsLine, Row, path_command}
 use Rattle.cmd_lang.specs.Sayable.{IsSayable, IsSayablePath}
 use Rattle.cmd_lang.specs.Words.{words_of}
-use Rattle.cmd_lang.proofs.SayableWords.{IsShort, access-sayable, digits-sayable, flags-sayable, hex-sayable, path-sayable, pieces-short, target-sayable}
+use Rattle.cmd_lang.proofs.SayableWords.{IsShort, access-sayable, digits-sayable, flags-sayable, hex-sayable}
+use Rattle.cmd_lang.proofs.SayableWords.{path-sayable, pieces-short, target-sayable}
 
 -- the words of a command are short
 one-short : (words : List (List ℕ)) (a : List ℕ) → All IsShort words → words ≡ a ∷ [] → IsShort a

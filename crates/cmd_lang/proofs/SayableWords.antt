@@ -1,5 +1,6 @@
 -- What a word of a line stands for is sayable.
-use Rattle.std.proofs.Common.{◌≡◌, ◌≢◌, ℕ, suc, ◌+◌, ◌*◌, ◌-◌, ◌/◌, ◌%◌, ◌^◌, ◌<◌, ◌≤◌, ◌==◌, nat_lt, Bool, true, false, cond, List, [], ◌∷◌, length, Option, Some, None, inl, inr, refl, sym, ap, ◌∙◌, subst, arith, length-append}
+use Rattle.std.proofs.Common.{◌≡◌, ◌≢◌, ℕ, suc, ◌+◌, ◌*◌, ◌-◌, ◌/◌, ◌%◌, ◌^◌, ◌<◌, ◌≤◌, ◌==◌, nat_lt, Bool, true, false, cond, List, []}
+use Rattle.std.proofs.Common.{◌∷◌, length, Option, Some, None, inl, inr, refl, sym, ap, ◌∙◌, subst, arith, length-append}
 use Rattle.std.specs.Prelude.{All, IsTrue, ◌||◌, flat_map, sum_by}
 use Rattle.std.specs.Char.{IsScalar, len_utf8}
 use Rattle.std.proofs.lemmas.Bool.Decides.{nat_tests}
@@ -13,7 +14,8 @@ use Rattle.vol_bytes.specs.declared.letter.Letter.{Letter}
 use Rattle.vol_bytes.specs.declared.letter.Letter.TheVariants.{Escaped, Plain}
 use Rattle.tree_model.specs.declared.opens.Access.{Access}
 use Rattle.cmd_lang.specs.Sayable.{AreSayableBytes, AreSayableFlags, IsSayableAccess, IsSayableName, IsSayablePath, IsSayableTarget}
-use Rattle.cmd_lang.specs.Words.{AreDigits, AreFlags, AreNames, IsAccess, IsBehind, IsHex, IsPath, IsTarget, IsTargetOf, letters_of, most_bytes, onto, pieces}
+use Rattle.cmd_lang.specs.Words.{AreDigits, AreFlags, AreNames, IsAccess, IsBehind, IsHex, IsPath, IsTarget, IsTargetOf, letters_of}
+use Rattle.cmd_lang.specs.Words.{most_bytes, onto, pieces}
 use Rattle.cmd_lang.proofs.PieceLaws.{some_piece}
 
 -- a word or a name with one byte before it
@@ -28,7 +30,8 @@ room-cons word words = sum_by-cons room_of word words
 
 onto-room : (byte : ℕ) (words : List (List ℕ)) → words ≢ [] → room (onto byte words) ≡ 1 + room words
 onto-room byte [] some = absurd (some refl)
-onto-room byte (word ∷ words) some = let one = room-cons (byte ∷ word) words in let other = room-cons word words in omega (arith, one, other)
+onto-room byte (word ∷ words) some = let one = room-cons (byte ∷ word) words in let other = room-cons word words in
+    omega (arith, one, other)
 
 -- the pieces and the separators between them are the text
 pieces-room : (separator : ℕ) (text : List ℕ) → room (pieces separator text) ≡ 1 + length text

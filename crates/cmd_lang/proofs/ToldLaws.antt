@@ -1,5 +1,6 @@
 -- What is sayable is said by some words.
-use Rattle.std.proofs.Common.{◌≡◌, ℕ, zero, suc, ◌/◌, ◌%◌, ◌^◌, ◌<◌, ◌==◌, Bool, true, false, List, [], ◌∷◌, ◌++◌, length, Option, Some, None, inl, inr, refl, sym, ap, arith}
+use Rattle.std.proofs.Common.{◌≡◌, ℕ, zero, suc, ◌/◌, ◌%◌, ◌^◌, ◌<◌, ◌==◌, Bool, true, false, List, [], ◌∷◌, ◌++◌, length, Option, Some}
+use Rattle.std.proofs.Common.{None, inl, inr, refl, sym, ap, arith}
 use Rattle.std.specs.Prelude.{All, IsTrue, ◌||◌, codes, decimal, flat_map, map}
 use Rattle.std.proofs.lemmas.List.Elements.{All-append, All-cons, All-head, All-nil, All-tail}
 use Rattle.hex.specs.Hex.{encode_lower, IsBytes}
@@ -12,8 +13,10 @@ use Rattle.cmd_lang.specs.declared.verb.PathVerb.{PathVerb}
 use Rattle.cmd_lang.specs.declared.verb.PathVerb.TheVariants as path_verb
 use Rattle.cmd_lang.specs.declared.verb.Verb.TheVariants as verb
 use Rattle.cmd_lang.specs.Grammar.{IsCommand, path_command, verb_text}
-use Rattle.cmd_lang.specs.Sayable.{AreSayableBytes, AreSayableFlags, IsSayable, IsSayableAccess, IsSayableName, IsSayablePath, IsSayableTarget}
-use Rattle.cmd_lang.specs.Words.{AreDigits, AreFlags, AreNames, IsAccess, IsHex, IsNumber, IsPath, IsShare, IsTag, IsTarget, hexadecimal, letters_of, pieces}
+use Rattle.cmd_lang.specs.Sayable.{AreSayableBytes, AreSayableFlags, IsSayable, IsSayableAccess}
+use Rattle.cmd_lang.specs.Sayable.{IsSayableName, IsSayablePath, IsSayableTarget}
+use Rattle.cmd_lang.specs.Words.{AreDigits, AreFlags, AreNames, IsAccess, IsHex, IsNumber, IsPath, IsShare, IsTag, IsTarget}
+use Rattle.cmd_lang.specs.Words.{hexadecimal, letters_of, pieces}
 
 -- a byte is no separator
 abbrev IsOther : ℕ → ℕ → Type 0
@@ -218,7 +221,8 @@ path_verb-told which path is = (
 )
 
 pub command-told : (said : Command) → IsSayable said → Told said
-command-told (command.Time now) is = (codes "time" ∷ decimal now ∷ [], (verb.Time, refl, (now, (decimal now, refl, number-told (2 ^ 64) now is), refl)))
+command-told (command.Time now) is =
+    (codes "time" ∷ decimal now ∷ [], (verb.Time, refl, (now, (decimal now, refl, number-told (2 ^ 64) now is), refl)))
 command-told (command.Ls path) is = path_verb-told path_verb.Ls path is
 command-told (command.Stat path) is = path_verb-told path_verb.Stat path is
 command-told (command.Links path) is = path_verb-told path_verb.Links path is
@@ -335,7 +339,8 @@ command-told (command.Setsec path id) is = (
   codes "setsec" ∷ path_word path ∷ decimal id ∷ [],
   (verb.Setsec, refl, (path, id, (path_word path, decimal id, refl, (path-told path is.0, number-told (2 ^ 32) id is.1)), refl)),
 )
-command-told (command.Sd id) is = (codes "sd" ∷ decimal id ∷ [], (verb.Sd, refl, (id, (decimal id, refl, number-told (2 ^ 32) id is), refl)))
+command-told (command.Sd id) is =
+    (codes "sd" ∷ decimal id ∷ [], (verb.Sd, refl, (id, (decimal id, refl, number-told (2 ^ 32) id is), refl)))
 command-told (command.Reparse path) is = path_verb-told path_verb.Reparse path is
 command-told (command.Mkreparse path tag bytes) is = (
   codes "mkreparse" ∷ path_word path ∷ hexadecimal 4 tag ∷ hex_word bytes ∷ [],
@@ -421,4 +426,5 @@ command-told (command.Hwrite handle at bytes) is = (
     ),
   ),
 )
-command-told (command.Close handle) is = (codes "close" ∷ decimal handle ∷ [], (verb.Close, refl, (handle, (decimal handle, refl, number-told (2 ^ 32) handle is), refl)))
+command-told (command.Close handle) is =
+    (codes "close" ∷ decimal handle ∷ [], (verb.Close, refl, (handle, (decimal handle, refl, number-told (2 ^ 32) handle is), refl)))

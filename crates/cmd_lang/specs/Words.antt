@@ -1,5 +1,6 @@
 -- The words of a script line: numbers, bytes, paths, targets and the others.
-use Rattle.std.specs.Prelude.{◌≡◌, ◌⊎◌, ℕ, ◌^◌, ◌<◌, ◌==◌, Bool, List, [], ◌∷◌, ◌++◌, codes, decimal, length, Option, Some, None, bit_and, if◌then◌else◌}
+use Rattle.std.specs.Prelude.{◌≡◌, ◌⊎◌, ℕ, ◌^◌, ◌<◌, ◌==◌, Bool, List, [], ◌∷◌, ◌++◌, codes, decimal, length, Option, Some}
+use Rattle.std.specs.Prelude.{None, bit_and, if◌then◌else◌}
 use Rattle.byteorder.specs.Endian.{big_bytes}
 use Rattle.hex.specs.Hex.{encode_lower, IsBytes}
 use Rattle.vol_bytes.specs.NameText.{IsNameText}

@@ -1,7 +1,8 @@
 //! Short texts, laid out without memory.
 ghost use Rattle.std.specs.Prelude.{◌≡◌, ◌+◌, ◌≤◌, ◌++◌, IsTrue, decimal, length, slice_index};
 ghost use Rattle.arrayvec.specs.ArrayVec.{array_vec_len};
-ghost use Rattle.cmd_lang.specs.Printed.{and_word, answer_text, df_text, flags_text, is_short, kind_text, made_text, no_text, number_text, refusal_name, refusal_numbers, stat_text, stream_word, tag_text};
+ghost use Rattle.cmd_lang.specs.Printed.{and_word, answer_text, df_text, flags_text, is_short, kind_text, made_text, no_text, number_text};
+ghost use Rattle.cmd_lang.specs.Printed.{refusal_name, refusal_numbers, stat_text, stream_word, tag_text};
 
 use crate::digits::{flags_digits, tag_digits};
 use arrayvec::ArrayVec;

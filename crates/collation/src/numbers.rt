@@ -1,6 +1,7 @@
 //! The orders of the keys of view indexes: numbers of four bytes.
 ghost use Rattle.std.specs.Prelude.{◌≡◌};
-ghost use Rattle.ntfs_def.specs.KeyOrder.{by_numbers, hash_order, hash_parts, id_order, id_parts, is_hash_key, is_id_key, is_word_key, word_order, word_parts};
+ghost use Rattle.ntfs_def.specs.KeyOrder.{by_numbers, hash_order, hash_parts, id_order, id_parts, is_hash_key, is_id_key};
+ghost use Rattle.ntfs_def.specs.KeyOrder.{is_word_key, word_order, word_parts};
 
 use crate::Collation;
 use std::cmp::Ordering;

@@ -1,6 +1,8 @@
 -- Runs that are written one behind the other.
-use Rattle.std.proofs.Common.{◌≡◌, ℕ, ◌+◌, ◌^◌, ◌<◌, ◌≤◌, List, [], ◌∷◌, ◌++◌, length, take, drop, set, get_or, refl, sym, ap, ◌∙◌, arith, append_assoc, length-append, length-drop}
-use Rattle.std.proofs.lemmas.List.{drop-drop, drop_at, drop_all, drop_more, drop-set-lt, length-take-le, take-append-drop, take_at, take_more_set}
+use Rattle.std.proofs.Common.{◌≡◌, ℕ, ◌+◌, ◌^◌, ◌<◌, ◌≤◌, List, [], ◌∷◌, ◌++◌, length, take, drop, set, get_or, refl, sym, ap, ◌∙◌, arith}
+use Rattle.std.proofs.Common.{append_assoc, length-append, length-drop}
+use Rattle.std.proofs.lemmas.List.{drop-drop, drop_at, drop_all, drop_more, drop-set-lt, length-take-le}
+use Rattle.std.proofs.lemmas.List.{take-append-drop, take_at, take_more_set}
 use Rattle.ntfs_def.specs.declared.run_text.Run.{Run}
 use Rattle.ntfs_def.specs.Runs.{IsRunList, IsRunListFrom, MeansRuns, place_after}
 use Rattle.data_runs.specs.Written.{IsRunText, IsWritten, IsWrittenFrom, PutsText}

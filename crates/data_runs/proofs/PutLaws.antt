@@ -1,5 +1,6 @@
 -- Texts that are put at a place, one behind the other.
-use Rattle.std.proofs.Common.{◌≡◌, ℕ, ◌+◌, ◌-◌, ◌*◌, ◌^◌, ◌<◌, ◌≤◌, List, [], ◌∷◌, ◌++◌, length, take, drop, get_or, set, pos, refl, sym, ap, ◌∙◌, arith, append_assoc, append-nil, length-drop, length-take, length-append}
+use Rattle.std.proofs.Common.{◌≡◌, ℕ, ◌+◌, ◌-◌, ◌*◌, ◌^◌, ◌<◌, ◌≤◌, List, [], ◌∷◌, ◌++◌, length, take, drop, get_or, set, pos, refl, sym}
+use Rattle.std.proofs.Common.{ap, ◌∙◌, arith, append_assoc, append-nil, length-drop, length-take, length-append}
 use Rattle.std.proofs.lemmas.List.{drop_all, length-take-le, set_at, take_more}
 use Rattle.std.proofs.lemmas.List.Edits.{paste_all, paste-paste}
 use Rattle.std.proofs.lemmas.Slice.{put_mid-paste}
@@ -106,7 +107,8 @@ room-offset last run old new at middle room first offset is =
 -- neither part takes more than eight bytes
 pub parts-narrow : (last : ℕ) (run : Run) (old lens both : List ℕ) (at middle end : ℕ) → last ≤ 2 ^ 62 → run.len ≤ 2 ^ 62
     → EndsInReach run.len run.lcn
-    → PutsText (λ text. SpellsShortest text (pos run.len)) old lens (at + 1) middle → PutsText (IsOffsetText last run.lcn) lens both middle end
+    → PutsText (λ text. SpellsShortest text (pos run.len)) old lens (at + 1) middle
+    → PutsText (IsOffsetText last run.lcn) lens both middle end
     → (middle - at - 1 ≤ 8) × (end - middle ≤ 8)
 parts-narrow last run old lens both at middle end near small reach first then =
     let narrow = short_up run.len first.text (omega arith) first.is in

@@ -1,5 +1,6 @@
 -- Where a list is cut, and how long the text of its first runs is.
-use Rattle.std.proofs.Common.{◌≡◌, ℕ, zero, suc, ◌+◌, ◌-◌, ◌<◌, ◌≤◌, min, List, [], ◌∷◌, ◌++◌, length, take, drop, get_or, Option, Some, None, refl, sym, ap, subst, ◌∙◌, arith, append_assoc, length-append}
+use Rattle.std.proofs.Common.{◌≡◌, ℕ, zero, suc, ◌+◌, ◌-◌, ◌<◌, ◌≤◌, min, List, [], ◌∷◌, ◌++◌, length, take, drop, get_or, Option, Some}
+use Rattle.std.proofs.Common.{None, refl, sym, ap, subst, ◌∙◌, arith, append_assoc, length-append}
 use Rattle.std.specs.Option.{option_map}
 use Rattle.std.proofs.lemmas.List.{append-nil, drop_more, take_more, take_all}
 use Rattle.ntfs_def.specs.declared.run_text.Run.{Run}
@@ -21,15 +22,18 @@ clusters_of-from runs at d lt = rw (drop_more runs at d lt) refl
 -- a run that lies whole before the cut
 pub cut-next : (runs : List Run) (at inside vcn : ℕ) (d : Run) → at < length runs → (get_or runs at d).len ≤ inside
     → take vcn (clusters_of runs) ≡ clusters_of (take at runs) ++ take inside (clusters_of (drop at runs))
-    → take vcn (clusters_of runs) ≡ clusters_of (take (at + 1) runs) ++ take (inside - (get_or runs at d).len) (clusters_of (drop (at + 1) runs))
+    → take vcn (clusters_of runs) ≡ clusters_of (take (at + 1) runs)
+    ++ take (inside - (get_or runs at d).len) (clusters_of (drop (at + 1) runs))
 cut-next runs at inside vcn d lt past cut =
     let run = get_or runs at d in
     let whole : take inside (run_clusters (get_or runs at d)) ≡ run_clusters (get_or runs at d) =
     take_all inside (run_clusters (get_or runs at d)) (omega (arith, length-run_clusters (get_or runs at d))) in
-    let left : inside - length (run_clusters (get_or runs at d)) ≡ inside - (get_or runs at d).len = omega (arith, length-run_clusters (get_or runs at d)) in
+    let left : inside - length (run_clusters (get_or runs at d)) ≡ inside - (get_or runs at d).len =
+    omega (arith, length-run_clusters (get_or runs at d)) in
     cut ∙ ap (λ rest. clusters_of (take at runs) ++ take inside rest) (clusters_of-from runs at d lt)
     ∙ ap (λ rest. clusters_of (take at runs) ++ rest) (take-append inside (run_clusters run) (clusters_of (drop (at + 1) runs)))
-    ∙ ap (λ front. clusters_of (take at runs) ++ (front ++ take (inside - length (run_clusters run)) (clusters_of (drop (at + 1) runs)))) whole
+    ∙ ap (λ front. clusters_of (take at runs) ++ (front ++ take (inside - length (run_clusters run)) (clusters_of (drop (at + 1) runs))))
+    whole
     ∙ ap (λ n. clusters_of (take at runs) ++ (run_clusters run ++ take n (clusters_of (drop (at + 1) runs)))) left
     ∙ sym (append_assoc (clusters_of (take at runs)) (run_clusters run) (take (inside - run.len) (clusters_of (drop (at + 1) runs))))
     ∙ ap (λ front. front ++ take (inside - run.len) (clusters_of (drop (at + 1) runs)))
@@ -45,7 +49,8 @@ cut-within runs at part vcn d lt inside cut =
     let zero_more : option_map (λ place. place + 0) (get_or runs at d).lcn ≡ (get_or runs at d).lcn = unmoved (get_or runs at d).lcn in
     let low : min 0 (get_or runs at d).len ≡ 0 = omega arith in
     let short : run_clusters one ≡ take part (run_clusters (get_or runs at d)) =
-    run_clusters-part (get_or runs at d) one 0 part (omega (arith, inside)) (sym (ap (λ n. option_map (λ place. place + n) (get_or runs at d).lcn) low ∙ zero_more))
+    run_clusters-part (get_or runs at d) one 0 part (omega (arith, inside))
+    (sym (ap (λ n. option_map (λ place. place + n) (get_or runs at d).lcn) low ∙ zero_more))
     ∙ ap (λ n. take n (run_clusters (get_or runs at d))) (omega arith) in
     let rest : part - length (run_clusters (get_or runs at d)) ≡ 0 = omega (arith, length-run_clusters (get_or runs at d)) in
     clusters_of-push (take at runs) one ∙ ap (λ c. clusters_of (take at runs) ++ c) short
@@ -107,7 +112,17 @@ written-more runs n last len more d lt at before one text h =
     let (front, rest, first, (a, b, is, end, e), f) = written-split 0 (take n runs) (get_or runs n d ∷ []) text h' in
     let fore = before (front ++ 0 ∷ []) first in
     let run = one a (subst (λ l. IsRunText l (get_or runs n d) a) (sym at) is) in
-    omega (arith, ap length f, ap length e, ap length end, length-append front rest, length-append front (0 ∷ []), length-append a b, fore, run)
+    omega (
+      arith,
+      ap length f,
+      ap length e,
+      ap length end,
+      length-append front rest,
+      length-append front (0 ∷ []),
+      length-append a b,
+      fore,
+      run,
+    )
 
 take-split : (runs : List Run) (n m : ℕ) (d : Run) → n < m → m ≤ length runs
     → (more : List Run) × (take m runs ≡ take n runs ++ get_or runs n d ∷ more)
@@ -135,15 +150,18 @@ written-least runs n m last len more d lt le at before one text h =
 pub IsRunListFrom-take : (total n : ℕ) (runs : List Run) → IsRunListFrom total runs → IsRunListFrom total (take n runs)
 IsRunListFrom-take total zero runs h = tt
 IsRunListFrom-take total (suc n) [] h = tt
-IsRunListFrom-take total (suc n) (x ∷ xs) (some, bounded, reach, list) = (some, bounded, reach, IsRunListFrom-take (total + x.len) n xs list)
+IsRunListFrom-take total (suc n) (x ∷ xs) (some, bounded, reach, list) =
+    (some, bounded, reach, IsRunListFrom-take (total + x.len) n xs list)
 
 less-reach : (len part : ℕ) (lcn : Option ℕ) → part ≤ len → EndsInReach len lcn → EndsInReach part lcn
 less-reach len part None h r = tt
 less-reach len part (Some place) h r = omega arith
 
-pub IsRunListFrom-cut : (total n part : ℕ) (runs : List Run) (d : Run) → IsRunListFrom total runs → n < length runs → 0 < part → part < (get_or runs n d).len
+pub IsRunListFrom-cut : (total n part : ℕ) (runs : List Run) (d : Run) → IsRunListFrom total runs → n < length runs → 0 < part
+    → part < (get_or runs n d).len
     → IsRunListFrom total (take n runs ++ record { len = part; lcn = (get_or runs n d).lcn } ∷ [])
 IsRunListFrom-cut total n part [] d h lt some less = absurd (omega arith)
-IsRunListFrom-cut total zero part (x ∷ xs) d (one, bounded, reach, list) lt some less = (some, omega arith, less-reach x.len part x.lcn (omega arith) reach, tt)
+IsRunListFrom-cut total zero part (x ∷ xs) d (one, bounded, reach, list) lt some less =
+    (some, omega arith, less-reach x.len part x.lcn (omega arith) reach, tt)
 IsRunListFrom-cut total (suc n) part (x ∷ xs) d (one, bounded, reach, list) lt some less =
     (one, bounded, reach, IsRunListFrom-cut (total + x.len) n part xs d list (omega arith) some less)

@@ -1,5 +1,6 @@
 //! Run lists put together from pieces.
-ghost use Rattle.std.specs.Prelude.{◌≡◌, ◌+◌, ◌-◌, ◌<◌, ◌≤◌, ◌^◌, ◌++◌, ◌∷◌, [], ℕ, length, take, drop, List, Some, None, OnErr, OnOk, IfOk, slice_index_or};
+ghost use Rattle.std.specs.Prelude.{◌≡◌, ◌+◌, ◌-◌, ◌<◌, ◌≤◌, ◌^◌, ◌++◌, ◌∷◌, [], ℕ, length, take, drop, List, Some, None, OnErr};
+ghost use Rattle.std.specs.Prelude.{OnOk, IfOk, slice_index_or};
 ghost use Rattle.std.specs.Option.{option_map};
 ghost use Rattle.ntfs_def.specs.Runs.{clusters_of, EndsInReach, IsRunList, run_clusters, spot_in, spot_of, total_clusters};
 ghost use Rattle.ntfs_def.specs.declared.run_text.Run.{Run};

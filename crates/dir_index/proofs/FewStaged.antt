@@ -1,5 +1,6 @@
 -- HOW MANY SECTORS are staged: each is staged once, so no more come than are named.
-use Rattle.std.proofs.Common.{◌≡◌, ◌+◌, ◌*◌, ◌/◌, ◌≤◌, ◌++◌, ℕ, Bool, true, false, List, [], ◌∷◌, length, Option, Some, None, inl, inr, arith, length-append}
+use Rattle.std.proofs.Common.{◌≡◌, ◌+◌, ◌*◌, ◌/◌, ◌≤◌, ◌++◌, ℕ, Bool, true, false, List, [], ◌∷◌, length, Option, Some, None, inl}
+use Rattle.std.proofs.Common.{inr, arith, length-append}
 use Rattle.std.specs.Prelude.{cond, nat_lt, option_to_list}
 use Rattle.std.specs.List.{flat_map, range_with_len}
 use Rattle.std.proofs.lemmas.Bool.{le-ltb}
@@ -29,7 +30,8 @@ one-more : {X : Type 0} (o : Option X) → length (option_to_list o) ≤ 1
 one-more None = omega arith
 one-more (Some x) = omega arith
 
-pub each-few : {X : Type 0} (f : X → List ℕ) (most : ℕ) (xs : List X) → ((x : X) → length (f x) ≤ most) → length (flat_map f xs) ≤ length xs * most
+pub each-few : {X : Type 0} (f : X → List ℕ) (most : ℕ) (xs : List X) → ((x : X) → length (f x) ≤ most)
+    → length (flat_map f xs) ≤ length xs * most
 each-few f most [] few = omega arith
 each-few f most (x ∷ xs) few = let a = few x in let b = each-few f most xs few in
     omega (arith, a, b, length-append (f x) (flat_map f xs))

@@ -1,5 +1,6 @@
 -- An entry of a directory that stands alone, without a child's number, and whose key tells anew what it repeats of its file.
-use Rattle.std.proofs.Common.{◌≡◌, ℕ, ◌+◌, ◌-◌, ◌*◌, ◌/◌, ◌%◌, ◌<◌, ◌≤◌, ◌&&◌, Bool, true, false, List, [], ◌∷◌, length, map, get_or, inl, inr, refl, sym, ap, subst, ◌∙◌, arith, rules, slice_index, slice_range, nat_le}
+use Rattle.std.proofs.Common.{◌≡◌, ℕ, ◌+◌, ◌-◌, ◌*◌, ◌/◌, ◌%◌, ◌<◌, ◌≤◌, ◌&&◌, Bool, true, false, List, [], ◌∷◌, length, map, get_or, inl}
+use Rattle.std.proofs.Common.{inr, refl, sym, ap, subst, ◌∙◌, arith, rules, slice_index, slice_range, nat_le}
 use Rattle.std.specs.Prelude.{◌⊎◌, IsTrue, bit_and, bit_or}
 use Rattle.std.specs.List.{range_with_len}
 use Rattle.std.proofs.Math.Path.{fun_ext}
@@ -134,7 +135,8 @@ module _ (told : DuplicatedInformation) (was now : List ℕ) (tells : TellsFile 
 -- a key that is a name has the fields of one
 named-first : (key : List ℕ) → IsTrue (is_name_key key) → 0x42 ≤ length key
 named-first key named =
-    leb-true 0x42 (length key) (left (nat_le 0x42 (length key)) (nat_le 1 (unit_count key)) (nat_le (0x42 + 2 * unit_count key) (length key)) named)
+    leb-true 0x42 (length key)
+    (left (nat_le 0x42 (length key)) (nat_le 1 (unit_count key)) (nat_le (0x42 + 2 * unit_count key) (length key)) named)
   where
     left : (a b c : Bool) → IsTrue (a && b && c) → a ≡ true
     left a b c h = search rules
@@ -191,7 +193,8 @@ module _ (old : List ℕ) (one : IsTrue (is_one_entry Names false old)) (named :
     long-now : length (slice_range new 16 (16 + K)) ≡ K
     long-now = length_within new 16 K (omega (arith, inside, same.len))
 
-    byte-same : (k : ℕ) → (k < 0x08) ⊎ (0x3C ≤ k) → slice_index (slice_range new 16 (16 + K)) k ≡ slice_index (slice_range old 16 (16 + K)) k
+    byte-same : (k : ℕ) → (k < 0x08) ⊎ (0x3C ≤ k)
+        → slice_index (slice_range new 16 (16 + K)) k ≡ slice_index (slice_range old 16 (16 + K)) k
     byte-same k out = elim (cases_lt k K) [
       | inl lt ↦
           index_within new 16 K k lt
@@ -208,7 +211,8 @@ module _ (old : List ℕ) (one : IsTrue (is_one_entry Names false old)) (named :
     head-same : (item_in new).head ≡ (item_in old).head
     head-same =
         ap (λ (x : Item). x.head) (item-is new false told-one)
-        ∙ range_moved old new 0 0 8 (omega (arith, inside)) (omega (arith, inside, same.len)) (λ k lt. same.below (0 + k) (omega (arith, lt)))
+        ∙ range_moved old new 0 0 8 (omega (arith, inside)) (omega (arith, inside, same.len))
+        (λ k lt. same.below (0 + k) (omega (arith, lt)))
         ∙ sym (ap (λ (x : Item). x.head) (item-is old false one))
 
     -- .. which tell this

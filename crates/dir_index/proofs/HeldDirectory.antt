@@ -39,7 +39,8 @@ use Rattle.dir_index.specs.Held.{IsHeldDirectory, IsReadableDirectory, nodes_fou
 use Rattle.dir_index.specs.Links.{IsHeldIndex, link_in, names_index}
 use Rattle.dir_index.specs.Refreshed.{FoundExactly}
 use Rattle.dir_index.specs.Sought.{CanSeek, SeekCosts, Seeks, exact_order, folded_order}
-use Rattle.dir_index.proofs.HeldIndex.{can_seek_both, costs_exact, costs_folded, finds_exact, finds_folded, found_exactly, has_sorted, has_walk, walked}
+use Rattle.dir_index.proofs.HeldIndex.{can_seek_both, costs_exact, costs_folded, finds_exact, finds_folded, found_exactly}
+use Rattle.dir_index.proofs.HeldIndex.{has_sorted, has_walk, walked}
 
 -- A directory that can be read is held once it is loaded.
 pub is-loaded : {D : Type 0} (g : Ghosts D) (old new : Mft D g) (reads dir : ℕ) (file : FileParts) → MftReads g old new reads
@@ -118,7 +119,8 @@ module _ (view : VolumeView) (file : FileParts) (table : List ℕ) (held : IsHel
     }
 
     -- what a replacement asks for
-    pub can-replace : HasSortedIndex (name_order (fold_of table)) is_name_key (short_nodes Names records) (short_node Names index.root.now) 15
+    pub can-replace : HasSortedIndex (name_order (fold_of table)) is_name_key (short_nodes Names records)
+        (short_node Names index.root.now) 15
     can-replace =
         subst (λ t. HasSortedIndex (name_order (fold_of t)) is_name_key (short_nodes Names records) (short_node Names index.root.now) 15)
         (sym held.case) (has_sorted view (file_number file) table index.root.now records held-index held.directory)

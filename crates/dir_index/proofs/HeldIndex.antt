@@ -1,5 +1,6 @@
 -- The index of a directory as it is held has what a walk and a search ask for, and what they give is what the directory has.
-use Rattle.std.proofs.Common.{◌≡◌, ◌≤◌, ◌+◌, ◌*◌, ℕ, zero, suc, ◌<◌, List, [], ◌∷◌, get_or, map, Bool, true, false, cond, length, Option, Some, None, refl, sym, ap, subst, ◌∙◌, IsTrue, arith}
+use Rattle.std.proofs.Common.{◌≡◌, ◌≤◌, ◌+◌, ◌*◌, ℕ, zero, suc, ◌<◌, List, [], ◌∷◌, get_or, map, Bool, true, false, cond, length, Option}
+use Rattle.std.proofs.Common.{Some, None, refl, sym, ap, subst, ◌∙◌, IsTrue, arith}
 use Rattle.std.specs.Prelude.{◌==◌, All, Contains}
 use Rattle.std.specs.List.{filter_map}
 use Rattle.std.specs.Option.{option_and_then}
@@ -261,7 +262,8 @@ module _ (view : VolumeView) (dir : ℕ) (table root : List ℕ) (records : ℕ
         let named = Each-contains HasName has.items (item_in entry) keys there in
         record {
           among = there;
-          units_are = (bytes_eq-Decides (link_of_item (item_in entry)).name name).0 ((exact_tells fold name (item_in entry) named).1 first.equal);
+          units_are = (bytes_eq-Decides (link_of_item (item_in entry)).name name).0
+              ((exact_tells fold name (item_in entry) named).1 first.equal);
           key = named;
           short = Each-contains IsShortItem has.items (item_in entry) items-short there;
         }

@@ -37,7 +37,8 @@ use Rattle.dir_index.specs.Replaced.{StagesRecords}
 use Rattle.dir_index.specs.Standard.{IsInitialized, StagesRecordOf}
 
 -- A record of a file of a volume of which these stay: its records, and the blocks that they stand in.
-own-same : (old new : VolumeView) (f n : ℕ) → records_of new ≡ records_of old → new.block n ≡ old.block n → IsRecordOf old f n → IsRecordOf new f n
+own-same : (old new : VolumeView) (f n : ℕ) → records_of new ≡ records_of old → new.block n ≡ old.block n
+    → IsRecordOf old f n → IsRecordOf new f n
 own-same old new f n same block own = record {
   belongs = subst (λ (rs : Records). IsSomeAnd (rs.record_at n) (λ r. file_of n r ≡ f)) (sym same) own.belongs;
   well_formed = subst IsWellFormed (sym block) own.well_formed;
@@ -65,7 +66,8 @@ module _ (old mid : VolumeView) (file : FileParts) (table : List ℕ) (whole : I
       (whole.initialized n (own-back n own))
 
 -- The index of a directory that is held, under the value of its root.
-pub held-root : (view : VolumeView) (file : FileParts) (table root : List ℕ) → 0 < cluster_bytes view.layout → IsHeldDirectory view file table
+pub held-root : (view : VolumeView) (file : FileParts) (table root : List ℕ) → 0 < cluster_bytes view.layout
+    → IsHeldDirectory view file table
     → map (λ part. content_value part.content) (names_index view (file_number file)).root ≡ Some root ∷ []
     → IsHeldIndex view (file_number file) table root (index_record_on view (names_index view (file_number file)))
 held-root view file table root some held is_root = record {
@@ -103,7 +105,8 @@ pub units-there : (view : VolumeView) (dir : ℕ) (has : IsDirectoryIndex view d
     → HasUnits view dir units
 units-there view dir has units x is = (
   link_of_item x,
-  subst (λ (links : List Link). Contains links (link_of_item x)) (sym (links_are_items view dir has)) (Contains-map link_of_item has.items x is.among),
+  subst (λ (links : List Link). Contains links (link_of_item x)) (sym (links_are_items view dir has))
+      (Contains-map link_of_item has.items x is.among),
   is.units_are,
 )
 
@@ -126,9 +129,11 @@ entry-staged g f a b c records mounted first same still back then = record {
       let layout = (view g a).layout in
       let of_index = flat_map (record_sectors layout (spot_at (names_index (view g a) f).records)) first.vcns in
       let of_file = flat_map (record_places layout) then.holders in
-      let staged = subst (λ (parts : List Part). StagesOnly g (flat_map (record_sectors layout (spot_at parts)) first.vcns) (stage_of g a) (stage_of g b))
+      let staged = subst (λ (parts : List Part).
+      StagesOnly g (flat_map (record_sectors layout (spot_at parts)) first.vcns) (stage_of g a) (stage_of g b))
       (same told) (first.places told) in
-      let last = subst (λ (m : Mounted). StagesOnly g (flat_map (record_places (mounted_layout m)) then.holders) (stage_of g b) (stage_of g c))
+      let last =
+      subst (λ (m : Mounted). StagesOnly g (flat_map (record_places (mounted_layout m)) then.holders) (stage_of g b) (stage_of g c))
       mounted then.places in
       record {
         only = λ s there. elim (last.only s there) [
@@ -153,7 +158,8 @@ entry-staged_index g f a b records first same = record {
   places = λ told.
       let layout = (view g a).layout in
       let of_index = flat_map (record_sectors layout (spot_at (names_index (view g a) f).records)) first.vcns in
-      let staged = subst (λ (parts : List Part). StagesOnly g (flat_map (record_sectors layout (spot_at parts)) first.vcns) (stage_of g a) (stage_of g b))
+      let staged = subst (λ (parts : List Part).
+      StagesOnly g (flat_map (record_sectors layout (spot_at parts)) first.vcns) (stage_of g a) (stage_of g b))
       (same told) (first.places told) in
       record {
         only = λ s there. elim (staged.only s there) [
@@ -164,7 +170,8 @@ entry-staged_index g f a b records first same = record {
 }
 
 -- nothing
-pub entry-staged_none : {D : Type 0} (g : Ghosts D) (f : ℕ) (a b : Mft D g) → places g (stage_of g b) ≡ places g (stage_of g a) → StagesEntry g f a b
+pub entry-staged_none : {D : Type 0} (g : Ghosts D) (f : ℕ) (a b : Mft D g)
+    → places g (stage_of g b) ≡ places g (stage_of g a) → StagesEntry g f a b
 entry-staged_none g f a b same = record {
   vcns = [];
   few = omega arith;
@@ -175,7 +182,8 @@ entry-staged_none g f a b same = record {
 }
 
 -- .. behind a call that only read
-pub entry-staged_then : {D : Type 0} (g : Ghosts D) (f : ℕ) (a b c : Mft D g) → view g b ≡ view g a → places g (stage_of g b) ≡ places g (stage_of g a)
+pub entry-staged_then : {D : Type 0} (g : Ghosts D) (f : ℕ) (a b c : Mft D g) → view g b ≡ view g a
+    → places g (stage_of g b) ≡ places g (stage_of g a)
     → StagesEntry g f b c → StagesEntry g f a c
 entry-staged_then g f a b c same staged then = record {
   vcns = then.vcns;

@@ -42,7 +42,8 @@ module _ (file : FileParts) (kind : ℕ) (name was : List ℕ)
       omega (arith, no, some)
 
   -- and tells the value
-  pub root-first : (first : FirstPart) (t : TellsSizes file kind name first) → (content_value t.part.content ≡ Some was) × Contains all t.part
+  pub root-first : (first : FirstPart) (t : TellsSizes file kind name first)
+      → (content_value t.part.content ≡ Some was) × Contains all t.part
   root-first first t =
       let o = one-part all was is in
       let found = find-found is_first all t.part t.is_first in

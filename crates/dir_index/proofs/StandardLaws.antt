@@ -1,5 +1,6 @@
 -- The $STANDARD_INFORMATION of a file of a volume that can be read: it is one value, of 48 bytes or more.
-use Rattle.std.proofs.Common.{◌≡◌, ℕ, zero, suc, ◌<◌, ◌≤◌, true, cond, List, [], ◌∷◌, length, Some, None, inl, inr, refl, sym, ap, subst, ◌∙◌, arith, ltb}
+use Rattle.std.proofs.Common.{◌≡◌, ℕ, zero, suc, ◌<◌, ◌≤◌, true, cond, List, [], ◌∷◌, length, Some, None, inl, inr, refl, sym, ap, subst}
+use Rattle.std.proofs.Common.{◌∙◌, arith, ltb}
 use Rattle.std.specs.Prelude.{◌⊎◌, All, Contains, IfSome, IsSomeAnd, IsTrue, filter, slice_get, ◌==◌}
 use Rattle.std.proofs.lemmas.Bool.{and_from, cases_Bool, eqb-true, ltb-true}
 use Rattle.std.proofs.lemmas.Slice.Eq.{bytes_eq-Decides}
@@ -9,7 +10,8 @@ use Rattle.list_laws.proofs.FindLaws.{count-some, find-fails, find-found, passin
 use Rattle.list_laws.proofs.MemberLaws.{Contains-filter, Contains-from_flat_map, Contains-from_map}
 use Rattle.list_laws.proofs.OptionLaws.{none_other, some-value}
 use Rattle.volume_def.specs.AttributesClause.{IsRightRecord, IsStandard, is_standard}
-use Rattle.volume_def.specs.Files.{Clusters, Content, Part, Record, Value, content_value, file_of, is_base, is_of, parts, parts_like, record_in, record_on, records_of}
+use Rattle.volume_def.specs.Files.{Clusters, Content, Part, Record, Value, content_value, file_of, is_base, is_of, parts, parts_like}
+use Rattle.volume_def.specs.Files.{record_in, record_on, records_of}
 use Rattle.volume_def.specs.Readable.{IsFile, IsReadableVolume}
 use Rattle.volume_def.specs.Table.{cluster_bytes}
 use Rattle.volume_def.specs.Values.{first_part, first_vcn_of, is_first}
@@ -132,12 +134,14 @@ at-among (y ∷ ys) zero x e = (0, omega arith, cc)
 at-among (y ∷ ys) (suc i) x e = let r = at-among ys i x e in (suc r.0, omega (arith, r.1), r.2)
 
 -- the record that holds a part which is held is one of the file
-pub holder-own : (view : VolumeView) (f : ℕ) (file : FileParts) (part : Part) → All (λ (one : Held). IsRecordOf view f one.number) (held_of file)
+pub holder-own : (view : VolumeView) (f : ℕ) (file : FileParts) (part : Part)
+    → All (λ (one : Held). IsRecordOf view f one.number) (held_of file)
     → Contains (parts_held file) part → IsRecordOf view f part.holder
 holder-own view f file part own there =
     let (one, among, held) = Contains-from_flat_map parts_of (held_of file) part there in
     let (a, in_record, is) = Contains-from_map (part_of one.number) (attributes one.block) part held in
-    subst (λ (p : Part). IsRecordOf view f p.holder) is (All-contains (λ (h : Held). IsRecordOf view f h.number) (held_of file) one own among)
+    subst (λ (p : Part). IsRecordOf view f p.holder) is
+    (All-contains (λ (h : Held). IsRecordOf view f h.number) (held_of file) one own among)
 
 -- a call that only reads stages of no record
 pub reads-stage : {D : Type 0} (g : Ghosts D) (f n : ℕ) (old new : Mft D g) → MftReads g old new n → StagesRecordOf g f old new

@@ -1,8 +1,8 @@
 -- How the bills of calls add up.
 use Rattle.std.proofs.Common.{◌≡◌, ℕ, ◌+◌, ◌*◌, ◌<◌, ◌≤◌, ◌||◌, Bool, true, false, ap, refl, sym, ◌∙◌, arith}
 use Rattle.std.proofs.Math.Nat.{mul-le-mul_right}
-use Rattle.edit_def.specs.Account.{entry_bytes, Plan, Room, Wants, Within, Spends, HasRoom, HasParts, Keeps, LacksRoom, LacksParts, IsPlanned}
-use Rattle.edit_def.specs.Account.{also, most, owned, length_with, list_with, table_with, bitmap_with}
+use Rattle.edit_def.specs.Account.{entry_bytes, Plan, Room, Wants, Within, Spends, HasRoom, HasParts, Keeps, LacksRoom, LacksParts}
+use Rattle.edit_def.specs.Account.{IsPlanned, also, most, owned, length_with, list_with, table_with, bitmap_with}
 use Rattle.std.proofs.lemmas.List.Sums.{sum_by-le-sum_by}
 use Rattle.edit_def.proofs.Sums.{clusters_for-le, rows-then, rows-le}
 
@@ -44,16 +44,19 @@ Spends-then plan old mid new a b pos s t = record {
   lengths = λ f. omega (arith, length-also plan old a b f, s.lengths f, t.lengths f);
   lists = λ f. omega (arith, t.lists f, list-then plan old mid a b f pos s);
   claimed = omega (arith, s.claimed, t.claimed);
-  records = omega (arith, t.records, rows-then old.claimed mid.claimed a.records b.records old.records mid.records s.claimed s.grows s.records);
+  records =
+      omega (arith, t.records, rows-then old.claimed mid.claimed a.records b.records old.records mid.records s.claimed s.grows s.records);
   grows = omega (arith, s.grows, t.grows);
   table = omega (arith, t.table, table-then plan old mid a b pos s);
   bitmap = omega (arith, t.bitmap, bitmap-then plan old mid a b pos s);
 }
 
-pub most-then : (plan : Plan) (old mid : Room) (a b : Wants) → 0 < plan.size → Spends plan old mid a → most plan mid b ≤ most plan old (also a b)
+pub most-then : (plan : Plan) (old mid : Room) (a b : Wants) → 0 < plan.size → Spends plan old mid a
+    → most plan mid b ≤ most plan old (also a b)
 unfolding most
 most-then plan old mid a b pos s =
-    let lists = sum_by-le-sum_by (list_with plan mid b) (list_with plan old (also a b)) plan.files (λ f. list-then plan old mid a b f pos s) in
+    let lists = sum_by-le-sum_by (list_with plan mid b) (list_with plan old (also a b)) plan.files
+    (λ f. list-then plan old mid a b f pos s) in
     omega (arith, s.values, lists, table-then plan old mid a b pos s, bitmap-then plan old mid a b pos s)
 
 or-right : (x y : Bool) → y ≡ true → (x || y) ≡ true
@@ -66,10 +69,15 @@ unfolding IsPlanned
 IsPlanned-first plan room a b h =
     (h.0, λ f. omega (arith, h.1 f), λ f some. h.2 f (omega arith), λ f goes. h.3 f (ap (λ x. x || b.goes f) goes))
 
-pub IsPlanned-rest : (plan : Plan) (old mid : Room) (a b : Wants) → Spends plan old mid a → IsPlanned plan old (also a b) → IsPlanned plan mid b
+pub IsPlanned-rest : (plan : Plan) (old mid : Room) (a b : Wants) → Spends plan old mid a
+    → IsPlanned plan old (also a b) → IsPlanned plan mid b
 unfolding IsPlanned
-IsPlanned-rest plan old mid a b s h =
-    (h.0 ∙ sym s.size, λ f. omega (arith, h.1 f, s.names f), λ f some. h.2 f (omega arith), λ f goes. h.3 f (or-right (a.goes f) (b.goes f) goes))
+IsPlanned-rest plan old mid a b s h = (
+  h.0 ∙ sym s.size,
+  λ f. omega (arith, h.1 f, s.names f),
+  λ f some. h.2 f (omega arith),
+  λ f goes. h.3 f (or-right (a.goes f) (b.goes f) goes),
+)
 
 pub IsPlanned-less : (plan : Plan) (room : Room) (a b : Wants) → Within a b → IsPlanned plan room b → IsPlanned plan room a
 unfolding IsPlanned
@@ -79,7 +87,8 @@ IsPlanned-less plan room a b w h =
 pub HasRoom-rest : (plan : Plan) (old mid : Room) (a b : Wants) → 0 < plan.size → Spends plan old mid a → HasRoom plan old (also a b)
     → HasRoom plan mid b
 unfolding HasRoom
-HasRoom-rest plan old mid a b pos s h = (IsPlanned-rest plan old mid a b s h.0, h.1, omega (arith, h.2, s.volume, most-then plan old mid a b pos s))
+HasRoom-rest plan old mid a b pos s h =
+    (IsPlanned-rest plan old mid a b s h.0, h.1, omega (arith, h.2, s.volume, most-then plan old mid a b pos s))
 
 pub most-less : (plan : Plan) (room : Room) (a b : Wants) → 0 < plan.size → Within a b → most plan room a ≤ most plan room b
 unfolding most
@@ -108,7 +117,8 @@ unfolding most
 Spends-owned plan old new a s =
     omega (arith, s.values, s.table, s.bitmap, sum_by-le-sum_by new.list (list_with plan old a) plan.files s.lists)
 
-pub HasParts-rest : (plan : Plan) (old mid : Room) (a b : Wants) → Spends plan old mid a → HasParts plan old (also a b) → HasParts plan mid b
+pub HasParts-rest : (plan : Plan) (old mid : Room) (a b : Wants) → Spends plan old mid a
+    → HasParts plan old (also a b) → HasParts plan mid b
 unfolding HasParts
 HasParts-rest plan old mid a b s h = (
   IsPlanned-rest plan old mid a b s h.0,
@@ -170,12 +180,14 @@ HasParts-planned plan room a h = h.0
 -- a refusal of a later call is one of the whole
 pub LacksRoom-then : (old mid : Plan → Room) (a b c : Wants) → Within (also a b) c → Keeps old mid a → LacksRoom mid b → LacksRoom old c
 LacksRoom-then old mid a b c w s refused = λ plan pos has.
-    let planned = IsPlanned-first plan (old plan) a b (IsPlanned-less plan (old plan) (also a b) c w (HasRoom-planned plan (old plan) c has)) in
+    let planned = IsPlanned-first plan (old plan) a b
+    (IsPlanned-less plan (old plan) (also a b) c w (HasRoom-planned plan (old plan) c has)) in
     let spent = s plan pos planned in
     refused plan pos (HasRoom-rest plan (old plan) (mid plan) a b pos spent (HasRoom-less plan (old plan) (also a b) c pos w has))
 
 pub LacksParts-then : (old mid : Plan → Room) (a b c : Wants) → Within (also a b) c → Keeps old mid a → LacksParts mid b → LacksParts old c
 LacksParts-then old mid a b c w s refused = λ plan pos has.
-    let planned = IsPlanned-first plan (old plan) a b (IsPlanned-less plan (old plan) (also a b) c w (HasParts-planned plan (old plan) c has)) in
+    let planned = IsPlanned-first plan (old plan) a b
+    (IsPlanned-less plan (old plan) (also a b) c w (HasParts-planned plan (old plan) c has)) in
     let spent = s plan pos planned in
     refused plan pos (HasParts-rest plan (old plan) (mid plan) a b spent (HasParts-less plan (old plan) (also a b) c w has))

@@ -39,7 +39,8 @@ pub current-kept : (changed : Key → Bool) (old new : VolumeView) (f : ℕ) (ke
     → IsUnseen changed f → IsFile old f → IsFile new f → IsCurrent old f key → IsCurrent new f key
 current-kept changed old new f key kept size readable readable_new bases unseen file file_new is =
     let standard = standard-kept changed old new f kept size readable readable_new bases unseen file file_new in
-    let first = first-kept changed old new f DATA [] kept (unseen DATA [] refl) (one-first old f DATA [] bases readable.extents data-seen) size in
+    let first = first-kept changed old new f DATA [] kept (unseen DATA [] refl)
+    (one-first old f DATA [] bases readable.extents data-seen) size in
     record {
       times = is.times ∙ sym (ap standard_times standard);
       flags = is.flags ∙ sym (ap standard_flags standard);

@@ -54,7 +54,8 @@ Edited-then a b v w c old mid new was between now within x y =
     }
 
 -- THE CLAUSES that calls on records and clusters keep, once the bits are stored.
-pub low-of : (changed : Key → Bool) (wants : Wants) (old new : VolumeView) (was now : Marks) → Edited changed wants old new was now → StoresBits new
+pub low-of : (changed : Key → Bool) (wants : Wants) (old new : VolumeView) (was now : Marks)
+    → Edited changed wants old new was now → StoresBits new
     → (clause : Clause) → is_low clause ≡ true → Holds new clause
 low-of changed wants old new was now e bits clauses.Shape ok = e.editable.readable.shape
 low-of changed wants old new was now e bits clauses.Attributes ok = e.editable.readable.attributes

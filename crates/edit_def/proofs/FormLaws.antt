@@ -21,10 +21,12 @@ KeepsForms-then a b old mid new f x y =
     SameItems-filter na (filter nb (forms_of mid f)) (filter nb (forms_of new f)) y in
     subst (λ l. SameItems l (filter (is_form_kept (either a b) f) (forms_of new f))) (both (forms_of old f))
     (subst (SameItems (filter nb (filter na (forms_of old f)))) (filter-swap na nb (forms_of new f) ∙ both (forms_of new f))
-    (SameItems-trans (filter nb (filter na (forms_of old f))) (filter nb (filter na (forms_of mid f))) (filter na (filter nb (forms_of new f))) first
+    (SameItems-trans (filter nb (filter na (forms_of old f))) (filter nb (filter na (forms_of mid f)))
+    (filter na (filter nb (forms_of new f))) first
     (subst (λ l. SameItems l (filter na (filter nb (forms_of new f)))) (filter-swap na nb (forms_of mid f)) second)))
 
-pub KeepsForms-more : (a b : Key → Bool) (old new : VolumeView) (f : ℕ) → ((key : Key) → b key ≡ false → a key ≡ false) → KeepsForms a old new f
+pub KeepsForms-more : (a b : Key → Bool) (old new : VolumeView) (f : ℕ)
+    → ((key : Key) → b key ≡ false → a key ≡ false) → KeepsForms a old new f
     → KeepsForms b old new f
 KeepsForms-more a b old new f less x =
     subst (λ l. SameItems l (filter (is_form_kept b f) (forms_of new f))) (again (forms_of old f))

@@ -1,6 +1,6 @@
 -- The clusters without an owner, and those that parts own.
-use Rattle.std.proofs.Common.{◌≡◌, ◌<◌, ◌≤◌, ◌+◌, ◌-◌, ◌==◌, ◌⊎◌, min, max, ℕ, zero, suc, true, cond, List, [], ◌∷◌, length, Option, Some, None}
-use Rattle.std.proofs.Common.{refl, inl, inr, ◌∙◌, arith}
+use Rattle.std.proofs.Common.{◌≡◌, ◌<◌, ◌≤◌, ◌+◌, ◌-◌, ◌==◌, ◌⊎◌, min, max, ℕ, zero, suc, true, cond, List, [], ◌∷◌, length, Option, Some}
+use Rattle.std.proofs.Common.{None, refl, inl, inr, ◌∙◌, arith}
 use Rattle.std.specs.Prelude.{sum_by, filter, is_some}
 use Rattle.std.specs.Prelude.{count_by}
 use Rattle.std.specs.List.{flat_map, range_with_len}
@@ -56,7 +56,8 @@ sum-zero f h [] = refl
 sum-zero f h (x ∷ xs) = omega (arith, sum_by-cons f x xs, h x, sum-zero f h xs)
 
 inside : (p len c : ℕ)
-    → ((p ≤ c) × (c < p + len) × (one_if (is_in_run (Some p) len c) ≡ 1)) ⊎ ((c < p ⊎ p + len ≤ c) × (one_if (is_in_run (Some p) len c) ≡ 0))
+    → ((p ≤ c) × (c < p + len) × (one_if (is_in_run (Some p) len c) ≡ 1))
+    ⊎ ((c < p ⊎ p + len ≤ c) × (one_if (is_in_run (Some p) len c) ≡ 0))
 inside p len c = elim (cases_lt c p) [
   | inl l ↦ inr (inl l, grind (arith, nat_tests))
   | inr g ↦ elim (cases_lt c (p + len)) [
@@ -65,7 +66,8 @@ inside p len c = elim (cases_lt c p) [
   ]
 ]
 
-run-sum : (p len from n : ℕ) → sum_by (λ c. one_if (is_in_run (Some p) len c)) (range_with_len from n) ≡ min (from + n) (p + len) - max from p
+run-sum : (p len from n : ℕ) → sum_by (λ c. one_if (is_in_run (Some p) len c)) (range_with_len from n)
+    ≡ min (from + n) (p + len) - max from p
 run-sum p len from zero = omega arith
 run-sum p len from (suc n) =
     let head = sum_by-cons (λ c. one_if (is_in_run (Some p) len c)) from (range_with_len (from + 1) n) in
@@ -90,10 +92,11 @@ ends-within clusters p len h some = elim (cases_lt clusters (p + len)) as (λ _.
 one-run : (clusters : ℕ) (lcn : Option ℕ) (len : ℕ) → ((c : ℕ) → clusters ≤ c → one_if (is_in_run lcn len c) ≡ 0)
     → sum_by (λ c. one_if (is_in_run lcn len c)) (range_with_len 0 clusters) ≡ (cond (is_some lcn) len 0)
 one-run clusters None len h = sum-zero (λ c. one_if (is_in_run None len c)) (λ c. refl) (range_with_len 0 clusters)
-one-run clusters (Some p) len h = elim (cases_eq len 0) as (λ _. sum_by (λ c. one_if (is_in_run (Some p) len c)) (range_with_len 0 clusters) ≡ len) [
-  | inl none ↦ run-sum p len 0 clusters ∙ omega (arith, none)
-  | inr some ↦ run-sum p len 0 clusters ∙ omega (arith, ends-within clusters p len h (omega arith))
-]
+one-run clusters (Some p) len h =
+    elim (cases_eq len 0) as (λ _. sum_by (λ c. one_if (is_in_run (Some p) len c)) (range_with_len 0 clusters) ≡ len) [
+      | inl none ↦ run-sum p len 0 clusters ∙ omega (arith, none)
+      | inr some ↦ run-sum p len 0 clusters ∙ omega (arith, ends-within clusters p len h (omega arith))
+    ]
 
 runs-sum : (clusters : ℕ) (runs : List Run) → ((c : ℕ) → clusters ≤ c → times_covered runs c ≡ 0)
     → sum_by (λ c. times_covered runs c) (range_with_len 0 clusters) ≡ sum_by run_size runs

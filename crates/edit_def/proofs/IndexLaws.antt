@@ -1,6 +1,6 @@
 -- THE TABLE OF CASE AND INDEXES of which no attribute is named are kept, and what a call does to the names in a directory's index.
-use Rattle.std.proofs.Common.{◌≡◌, ◌≢◌, ◌+◌, ◌*◌, ◌/◌, ◌%◌, ◌<◌, ◌≤◌, ◌==◌, ℕ, Bool, true, false, cond, List, [], ◌∷◌, length, Option, Some, None}
-use Rattle.std.proofs.Common.{filter, map, refl, sym, ap, subst, ◌∙◌, arith}
+use Rattle.std.proofs.Common.{◌≡◌, ◌≢◌, ◌+◌, ◌*◌, ◌/◌, ◌%◌, ◌<◌, ◌≤◌, ◌==◌, ℕ, Bool, true, false, cond, List, [], ◌∷◌, length, Option, Some}
+use Rattle.std.proofs.Common.{None, filter, map, refl, sym, ap, subst, ◌∙◌, arith}
 use Rattle.std.proofs.lemmas.Bool.{and_parts, eq-eqb, eqb-true, ne_eqb}
 use Rattle.std.specs.List.{Contains, count_by, find}
 use Rattle.std.specs.Prelude.{IfSome, IsSome, IsSomeAnd, codes, slice_range}
@@ -21,7 +21,8 @@ use Rattle.ntfs_def.specs.declared.records.TheConstants.{UPCASE}
 use Rattle.volume_def.specs.CaseClause.{HasCaseTable, case_parts, volume_fold}
 use Rattle.volume_def.specs.FileNames.{is_in_directory, links}
 use Rattle.volume_def.specs.Files.{Clusters, Content, Part, Value, content_extent, content_value, is_of, parts, parts_at, records_of}
-use Rattle.volume_def.specs.IndexesClause.{HasIndex, IndexParts, IsDirectoryIndex, IsIndexRecordAt, KeyRule, index_nodes, index_parts, name_rule}
+use Rattle.volume_def.specs.IndexesClause.{HasIndex, IndexParts, IsDirectoryIndex, IsIndexRecordAt, KeyRule}
+use Rattle.volume_def.specs.IndexesClause.{index_nodes, index_parts, name_rule}
 use Rattle.volume_def.specs.Readable.{IsReadableVolume}
 use Rattle.volume_def.specs.Sound as clauses
 use Rattle.volume_def.specs.Sound.{Clause, Holds}
@@ -80,7 +81,8 @@ pub cluster-size : (old new : VolumeView) → SameVolume old.layout new.layout �
 cluster-size old new same = ap (λ n. 512 * n) same.cluster_sectors
 
 -- THE TABLE OF CASE.
-module _ (changed : Key → Bool) (old new : VolumeView) (kept : KeepsBut changed old new) (size : cluster_bytes new.layout ≡ cluster_bytes old.layout)
+module _ (changed : Key → Bool) (old new : VolumeView) (kept : KeepsBut changed old new)
+    (size : cluster_bytes new.layout ≡ cluster_bytes old.layout)
     (bases : HasRightBases (records_of old)) (readable : IsReadableVolume old) where
   one : (f kind : ℕ) (name : List ℕ) → kind ≢ FILE_NAME → count_by is_first (parts_at old f kind name) ≤ 1
   one f kind name other = one-first old f kind name bases readable.extents other
@@ -109,7 +111,8 @@ module _ (changed : Key → Bool) (old new : VolumeView) (kept : KeepsBut change
     after = index_parts new f name
 
     records-same : value_on old before.records ≡ value_on new after.records
-    records-same = sym (value-kept changed old new f INDEX_ALLOCATION name (kept f) records_free (one f INDEX_ALLOCATION name records-no-name) size)
+    records-same =
+        sym (value-kept changed old new f INDEX_ALLOCATION name (kept f) records_free (one f INDEX_ALLOCATION name records-no-name) size)
 
     bits-same : value_on old before.bits ≡ value_on new after.bits
     bits-same = sym (value-kept changed old new f BITMAP name (kept f) bits_free (one f BITMAP name bits-no-name) size)
@@ -119,7 +122,8 @@ module _ (changed : Key → Bool) (old new : VolumeView) (kept : KeepsBut change
     nodes-same form =
         ap (λ value vcn. short_node form (opened_of (slice_range value (vcn * cluster_bytes old.layout)
         (vcn * cluster_bytes old.layout + 4096)))) records-same
-        ∙ ap (λ bytes vcn. short_node form (opened_of (slice_range (value_on new after.records) (vcn * bytes) (vcn * bytes + 4096)))) (sym size)
+        ∙ ap (λ bytes vcn. short_node form (opened_of (slice_range (value_on new after.records) (vcn * bytes) (vcn * bytes + 4096))))
+        (sym size)
 
     record-kept : (vcn : ℕ) → IsIndexRecordAt old before vcn → IsIndexRecordAt new after vcn
     record-kept vcn r =
@@ -157,7 +161,8 @@ module _ (changed : Key → Bool) (old new : VolumeView) (kept : KeepsBut change
         let value = right.resident (rw k refl) in
         eq-eqb (first_vcn_of part.content) 0 (value-first part.content value)
 
-    one-part : (root : List ℕ) (xs : List Part) → length xs ≡ 1 → ((part : Part) → Contains xs part → content_value part.content ≡ Some root)
+    one-part : (root : List ℕ) (xs : List Part) → length xs ≡ 1
+        → ((part : Part) → Contains xs part → content_value part.content ≡ Some root)
         → map (λ (part : Part). content_value part.content) xs ≡ Some root ∷ []
     one-part root [] l each = cc
     one-part root (x ∷ []) l each = ap (λ o. o ∷ []) (each x (Contains-head x []))
@@ -189,7 +194,8 @@ module _ (changed : Key → Bool) (old new : VolumeView) (kept : KeepsBut change
         let counted : count_by is_first before.root ≡ 1 = ap (count_by is_first) w.1.1 ∙ count-yes is_first w.1.0 [] is ∙ omega arith in
         let long : length after.root ≡ 1 = sym whole ∙ same ∙ counted in
         one-part root after.root long (λ part c.
-        let found : first_part after.root ≡ Some part = find-one is_first after.root part (omega (arith, whole, long)) c (root-first part c) in
+        let found : first_part after.root ≡ Some part =
+        find-one is_first after.root part (omega (arith, whole, long)) c (root-first part c) in
         let t : ◌≡◌ {A = Option Told} (Some (told_by part)) (Some (told_by w.1.0)) = sym (ap (option_map told_by) found) ∙ told
         ∙ ap (option_map told_by) first in
         let u : told_by part ≡ told_by w.1.0 = cc in
@@ -221,7 +227,8 @@ module _ (changed : Key → Bool) (old new : VolumeView) (kept : KeepsBut change
     abbrev IsWritten : Option Sized → Type 0
     IsWritten o = IfSome o (λ sizes. sizes.initialized ≡ sizes.real)
 
-    to-sized : (o : Option Part) → IfSome o (λ part. IfSome (content_extent part.content) (λ extent. extent.sizes.initialized ≡ extent.sizes.real))
+    to-sized : (o : Option Part)
+        → IfSome o (λ part. IfSome (content_extent part.content) (λ extent. extent.sizes.initialized ≡ extent.sizes.real))
         → IfSome o (λ part. IsWritten (told_by part).sizes)
     to-sized None is = is
     to-sized (Some part) is = by part.content is
@@ -243,7 +250,8 @@ module _ (changed : Key → Bool) (old new : VolumeView) (kept : KeepsBut change
 
     written-kept : IfSome (first_part before.records) (λ part. IfSome (content_extent part.content)
         (λ extent. extent.sizes.initialized ≡ extent.sizes.real))
-        → IfSome (first_part after.records) (λ part. IfSome (content_extent part.content) (λ extent. extent.sizes.initialized ≡ extent.sizes.real))
+        → IfSome (first_part after.records)
+        (λ part. IfSome (content_extent part.content) (λ extent. extent.sizes.initialized ≡ extent.sizes.real))
     written-kept is =
         from-sized (first_part after.records) (told-if (λ told. IsWritten told.sizes) (first_part after.records) (first_part before.records)
         (first-kept changed old new f INDEX_ALLOCATION name (kept f) records_free (one f INDEX_ALLOCATION name records-no-name) size)
@@ -267,7 +275,8 @@ module _ (changed : Key → Bool) (old new : VolumeView) (kept : KeepsBut change
       collation = h.collation;
       record_size = h.record_size;
       plain = told-if is_plain_told (first_part after.records) (first_part before.records)
-          (first-kept changed old new f INDEX_ALLOCATION name (kept f) records_free (one f INDEX_ALLOCATION name records-no-name) size) h.plain;
+          (first-kept changed old new f INDEX_ALLOCATION name (kept f) records_free (one f INDEX_ALLOCATION name records-no-name) size)
+          h.plain;
       plain_bits = told-if is_plain_told (first_part after.bits) (first_part before.bits)
           (first-kept changed old new f BITMAP name (kept f) bits_free (one f BITMAP name bits-no-name) size) h.plain_bits;
       written = written-kept h.written;
@@ -279,7 +288,8 @@ module _ (changed : Key → Bool) (old new : VolumeView) (kept : KeepsBut change
       ascending = h.ascending;
     }
 
-    pub index-same : (form : NodeForm) (rule : KeyRule) (items : List Item) → HasIndex form rule old before items → HasIndex form rule new after items
+    pub index-same : (form : NodeForm) (rule : KeyRule) (items : List Item) → HasIndex form rule old before items
+        → HasIndex form rule new after items
     index-same form rule items h = index-kept form rule items h
 
     -- of names, which are compared as before
@@ -306,7 +316,8 @@ module _ (changed : Key → Bool) (old new : VolumeView) (kept : KeepsBut change
         )
 
 -- THE ITEMS OF A DIRECTORY that is not named.
-pub items-kept : (changed : Key → Bool) (old new : VolumeView) → KeepsBut changed old new → cluster_bytes new.layout ≡ cluster_bytes old.layout
+pub items-kept : (changed : Key → Bool) (old new : VolumeView) → KeepsBut changed old new
+    → cluster_bytes new.layout ≡ cluster_bytes old.layout
     → HasRightBases (records_of old) → IsReadableVolume old → IsReadableVolume new
     → changed (key_of UPCASE DATA []) ≡ false → (dir : ℕ)
     → changed (key_of dir INDEX_ROOT (wide (codes "$I30"))) ≡ false → changed (key_of dir INDEX_ALLOCATION (wide (codes "$I30"))) ≡ false
@@ -329,7 +340,8 @@ pub directory-same : (old new : VolumeView) (dir : ℕ) → KeepsItems old new d
     → SameItems (links (records_of old)) (links (records_of new)) → IsDirectoryIndex old dir → IsDirectoryIndex new dir
 directory-same old new dir kept same d =
     directory-of-items new dir d.items (kept d.items (items-of-directory old dir d))
-    (SameItems-trans (map names.link_of d.items) (filter (is_in_directory dir) (links (records_of old))) (filter (is_in_directory dir) (links
+    (SameItems-trans (map names.link_of d.items) (filter (is_in_directory dir) (links (records_of old)))
+    (filter (is_in_directory dir) (links
     (records_of new)))
     d.names (SameItems-filter (is_in_directory dir) (links (records_of old)) (links (records_of new)) same))
 
@@ -337,7 +349,8 @@ directory-same old new dir kept same d =
 other-link : (dir : ℕ) (link : names.Link) (xs : List names.Link) → dir ≢ link.name.parent.number
     → filter (is_in_directory dir) (link ∷ xs) ≡ filter (is_in_directory dir) xs
 other-link dir link xs ne =
-    ap (λ b. cond b (link ∷ filter (is_in_directory dir) xs) (filter (is_in_directory dir) xs)) (ne_eqb link.name.parent.number dir (λ e. ne (sym e)))
+    ap (λ b. cond b (link ∷ filter (is_in_directory dir) xs) (filter (is_in_directory dir) xs))
+    (ne_eqb link.name.parent.number dir (λ e. ne (sym e)))
 
 own-link : (dir : ℕ) (link : names.Link) (xs : List names.Link) → link.name.parent.number ≡ dir
     → filter (is_in_directory dir) (link ∷ xs) ≡ link ∷ filter (is_in_directory dir) xs

@@ -36,7 +36,8 @@ KeepsFile-then a b old mid new f x y = record {
       SameItems-filter na (filter nb (told_of mid f)) (filter nb (told_of new f)) y.told in
       subst (λ l. SameItems l (filter (is_kept (either a b) f) (told_of new f))) (both (told_of old f))
       (subst (SameItems (filter nb (filter na (told_of old f)))) (filter-swap na nb (told_of new f) ∙ both (told_of new f))
-      (SameItems-trans (filter nb (filter na (told_of old f))) (filter nb (filter na (told_of mid f))) (filter na (filter nb (told_of new f))) first
+      (SameItems-trans (filter nb (filter na (told_of old f))) (filter nb (filter na (told_of mid f)))
+      (filter na (filter nb (told_of new f))) first
       (subst (λ l. SameItems l (filter na (filter nb (told_of new f)))) (filter-swap na nb (told_of mid f)) second)));
   order = by x.order y.order;
   spots = λ kind name e vcn.
@@ -67,7 +68,8 @@ KeepsFile-then a b old mid new f x y = record {
         (Contains-from_filter (is_kept a f) (filter (is_kept b f) (told_of mid f)) t (subst (λ l. Contains l t) same d)).0 units)
     by (inr p) q =
         inr (λ s t c d units. p s t
-        (Contains-from_filter (is_kept b f) (filter (is_kept a f) (told_of old f)) s (subst (λ l. Contains l s) (sym (both (told_of old f))) c)).0
+        (Contains-from_filter (is_kept b f) (filter (is_kept a f) (told_of old f)) s
+        (subst (λ l. Contains l s) (sym (both (told_of old f))) c)).0
         (Contains-from_filter (is_kept b f) (filter (is_kept a f) (told_of old f)) t (subst (λ l. Contains l t) (sym (both
         (told_of old f))) d)).0 units)
 

@@ -22,12 +22,15 @@ abbrev pub links_by : ℕ → Option Numbers → List names.FileName → List na
 links_by f None all = []
 links_by f (Some numbers) all = map (referred f numbers.sequence) all
 
-pub file-links : (records : Records) (f : ℕ) (o : Option Record) → links_of_file records f o ≡ links_by f (numbers_by o) (names_of records f)
+pub file-links : (records : Records) (f : ℕ) (o : Option Record)
+    → links_of_file records f o ≡ links_by f (numbers_by o) (names_of records f)
 file-links records f None = refl
 file-links records f (Some r) = by (is_base r)
   where
     by : (b : Bool) → (if b then map (referred f r.header.sequence) (names_of records f) else [])
-        ≡ links_by f (if b then Some (record { sequence = r.header.sequence; links = r.header.links; directory = r.header.flags / 2 % 2 == 1 }) else None) (names_of records f)
+        ≡ links_by f (if b then
+        Some (record { sequence = r.header.sequence; links = r.header.links; directory = r.header.flags / 2 % 2 == 1 }) else None)
+        (names_of records f)
     by true = refl
     by false = refl
 

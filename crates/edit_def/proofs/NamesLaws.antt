@@ -86,7 +86,8 @@ references-by records bounded bases stand n = by (records.record_at n) refl (bas
           let w = Contains-from_filter_map name_of_part (filter is_file_name r.parts) name c in
           let p = Contains-from_filter is_file_name r.parts w.0 w.1 in
           let f = file_of n r in
-          let part = Contains-HoldsPart records f n w.0 (record { inside = bounded n r at; record_there = r; held = at; file = refl; among = p.0 }) in
+          let part = Contains-HoldsPart records f n w.0
+          (record { inside = bounded n r at; record_there = r; held = at; file = refl; among = p.0 }) in
           let there = Contains-filter_map name_of_part (filter is_file_name (parts records f)) w.0 name (Contains-filter is_file_name
           (parts records f) w.0 part p.1) w.2 in
           in-directory records name.parent
@@ -161,11 +162,13 @@ stand-loses old new f name g stand h = elim (cases_eq h f) [
       (All-from_Contains (λ (other : FileName). IsTrue (is_directory_in new other.parent)) (names_of new f) (λ other c.
       All-contains (λ (n : FileName). is_directory_in new n.parent ≡ true) (name ∷ names_of new f) other all
       (Contains-later name (names_of new f) other c)))
-  | inr ne ↦ stand-kept old new h (directories-loses new old f name g) (SameItems-sym (names_of new h) (names_of old h) (g.others h ne).names)
+  | inr ne ↦ stand-kept old new h (directories-loses new old f name g)
+      (SameItems-sym (names_of new h) (names_of old h) (g.others h ne).names)
       (stand h)
 ]
 
-pub names-comes : (old new : Records) (f : ℕ) (now : Numbers) → ComesUnnamed old new f now → (g : ℕ) → SameItems (names_of old g) (names_of new g)
+pub names-comes : (old new : Records) (f : ℕ) (now : Numbers) → ComesUnnamed old new f now → (g : ℕ)
+    → SameItems (names_of old g) (names_of new g)
 names-comes old new f now c g = elim (cases_eq g f) [
   | inl e ↦ subst (λ h. SameItems (names_of old h) (names_of new h)) (sym e) (SameItems-same (names_of old f) (names_of new f)
       (c.nowhere ∙ sym c.unnamed))
@@ -176,7 +179,8 @@ pub stand-comes : (old new : Records) (f : ℕ) (now : Numbers) → ComesUnnamed
 stand-comes old new f now c stand = stand-all old new (directories-comes old new f now c) (names-comes old new f now c) stand
 
 -- where none stands in the file that goes
-pub stand-goes : (old new : Records) (f : ℕ) (was : Numbers) → ComesUnnamed new old f was → HasNoNames old f → StandRightly old → StandRightly new
+pub stand-goes : (old new : Records) (f : ℕ) (was : Numbers) → ComesUnnamed new old f was → HasNoNames old f
+    → StandRightly old → StandRightly new
 stand-goes old new f was c empty stand g =
     All-SameItems (λ (name : FileName). is_directory_in new name.parent) (names_of old g) (names_of new g)
     (SameItems-sym (names_of new g) (names_of old g) (names-comes new old f was c g))

@@ -1,10 +1,12 @@
 -- The need of a command covers its bill.
-use Rattle.std.proofs.Common.{◌≡◌, ℕ, ◌+◌, ◌-◌, ◌*◌, ◌<◌, ◌≤◌, inl, inr, Bool, true, false, cond, max, List, [], ◌∷◌, length, refl, ap, arith}
+use Rattle.std.proofs.Common.{◌≡◌, ℕ, ◌+◌, ◌-◌, ◌*◌, ◌<◌, ◌≤◌, inl, inr, Bool, true, false, cond, max, List, [], ◌∷◌, length}
+use Rattle.std.proofs.Common.{refl, ap, arith}
 use Rattle.std.specs.Prelude.{sum_by, nat_le}
 use Rattle.std.proofs.lemmas.List.Sums.{sum_by-cons}
 use Rattle.std.proofs.Math.Nat.{mul-le-mul_left}
 use Rattle.tree_model.specs.Need.{Bill, Touched, parts_wanted, records_wanted, list_clusters, table_growth, need_of}
-use Rattle.edit_def.specs.Account.{entry_bytes, is_among, IsPlanned, length_with, Plan, Room, IsRoom, AreTouched, wants_of, most, owned, list_with, table_with, bitmap_with, rows}
+use Rattle.edit_def.specs.Account.{entry_bytes, is_among, IsPlanned, length_with, Plan, Room, IsRoom, AreTouched, wants_of, most, owned}
+use Rattle.edit_def.specs.Account.{list_with, table_with, bitmap_with, rows}
 use Rattle.edit_def.proofs.Sums.{clusters_for-le, clusters_for-whole, clusters_for-least, rows-cases}
 use Rattle.ntfs_def.specs.Rounded.{clusters_for}
 
@@ -13,7 +15,8 @@ most-parts : (b : Bool) (parts bytes : ℕ) → (cond b parts 0) * bytes ≤ par
 most-parts true parts bytes = omega arith
 most-parts false parts bytes = omega arith
 
-lists-need : (plan : Plan) (room : Room) (bill : Bill) (goes : ℕ → Bool) (units : ℕ → ℕ) (fs : List ℕ) (ts : List Touched) → 0 < plan.size → AreTouched plan room fs ts
+lists-need : (plan : Plan) (room : Room) (bill : Bill) (goes : ℕ → Bool) (units : ℕ → ℕ) (fs : List ℕ) (ts : List Touched) → 0 < plan.size
+    → AreTouched plan room fs ts
     → sum_by (list_with plan room (wants_of plan bill goes units)) fs ≤ sum_by room.list fs + sum_by (list_clusters plan.size bill) ts
 lists-need plan room bill goes units [] [] pos h = omega arith
 lists-need plan room bill goes units [] (t ∷ ts) pos h = absurd h
@@ -36,7 +39,8 @@ touched-count plan room (f ∷ fs) [] h = absurd h
 touched-count plan room (f ∷ fs) (t ∷ ts) h = omega (arith, touched-count plan room fs ts h.2)
 
 -- the table and its bitmap
-grows-need : (plan : Plan) (room : Room) (bill : Bill) (goes : ℕ → Bool) (units : ℕ → ℕ) (free : ℕ) (b : Bool) → IsRoom plan room free → length plan.files
+grows-need : (plan : Plan) (room : Room) (bill : Bill) (goes : ℕ → Bool) (units : ℕ → ℕ) (free : ℕ) (b : Bool)
+    → IsRoom plan room free → length plan.files
     ≡ length bill.touched
     → records_wanted bill ≤ 4096 → nat_le (records_wanted bill) free ≡ b
     → table_with plan room (wants_of plan bill goes units) + bitmap_with plan room
@@ -56,7 +60,8 @@ grows-need plan room bill goes units free true is count few e =
       | inr x ↦ absurd
           (omega (arith, x.0))
     ] in
-    let m = clusters_for-least room.bitmap (rows room.claimed (records_wanted bill - 4 * length bill.touched) room.records) (8 * plan.size) wide
+    let m = clusters_for-least room.bitmap (rows room.claimed (records_wanted bill - 4 * length bill.touched) room.records)
+    (8 * plan.size) wide
     (omega (arith, is.bitmap, r)) in
     omega (arith, t, m)
 grows-need plan room bill goes units free false is count few e =
@@ -92,7 +97,8 @@ need-covers plan room bill goes units free is touched few =
     omega (
       arith,
       lists-need plan room bill goes units plan.files bill.touched pos touched,
-      grows-need plan room bill goes units free (nat_le (records_wanted bill) free) is (touched-count plan room plan.files bill.touched touched) few refl,
+      grows-need plan room bill goes units free (nat_le (records_wanted bill) free) is
+          (touched-count plan room plan.files bill.touched touched) few refl,
     )
 
 -- A PLAN of such files, whose names are long enough, serves the bill.

@@ -1,6 +1,6 @@
 -- A file is the node that it was where an edit names none of the attributes that the tree shows of it.
-use Rattle.std.proofs.Common.{◌≡◌, ◌≢◌, ◌+◌, ◌<◌, ◌≤◌, ◌&&◌, ◌==◌, not, ℕ, Bool, true, false, cond, List, [], ◌∷◌, length, Option, Some, None}
-use Rattle.std.proofs.Common.{filter, refl, sym, ap, subst, inl, inr, ◌⊎◌, ◌∙◌, arith, if◌then◌else◌}
+use Rattle.std.proofs.Common.{◌≡◌, ◌≢◌, ◌+◌, ◌<◌, ◌≤◌, ◌&&◌, ◌==◌, not, ℕ, Bool, true, false, cond, List, [], ◌∷◌, length, Option, Some}
+use Rattle.std.proofs.Common.{None, filter, refl, sym, ap, subst, inl, inr, ◌⊎◌, ◌∙◌, arith, if◌then◌else◌}
 use Rattle.std.proofs.lemmas.Bool.{and_from, and_parts, eq-eqb, eqb-true}
 use Rattle.std.proofs.lemmas.List.Elements.{All-contains}
 use Rattle.std.proofs.lemmas.Slice.Eq.{bytes_eq-Decides}
@@ -13,8 +13,8 @@ use Rattle.ntfs_def.specs.declared.kinds.TheConstants.{FILE_NAME, REPARSE_POINT,
 use Rattle.volume_def.specs.AttributesClause.{IsRightRecord, IsStandard, is_standard}
 use Rattle.volume_def.specs.CaseClause.{volume_fold}
 use Rattle.volume_def.specs.ExtentsClause.{AreAttribute, AreWhole, BeginsAt, FollowFrom}
-use Rattle.volume_def.specs.Files.{Clusters, Content, Part, Record, Value, content_extent, content_runs, content_value, file_of, is_base, is_of}
-use Rattle.volume_def.specs.Files.{part_clusters, parts, parts_at, record_on, records_of}
+use Rattle.volume_def.specs.Files.{Clusters, Content, Part, Record, Value, content_extent, content_runs, content_value, file_of, is_base}
+use Rattle.volume_def.specs.Files.{is_of, part_clusters, parts, parts_at, record_on, records_of}
 use Rattle.volume_def.specs.Readable.{IsFile, IsReadableVolume}
 use Rattle.volume_def.specs.Table.{cluster_bytes}
 use Rattle.volume_def.specs.Values.{first_part, first_vcn_of, is_first}
@@ -161,7 +161,8 @@ module _ (v : VolumeView) (f : ℕ) (readable : IsReadableVolume v) (file : IsFi
       let right = subst (λ o. IfSome o (IsRightRecord f)) at (readable.attributes f) in
       let w = passing is_standard r.parts (let c = right.one_standard base in omega (arith, c)) in
       let k = eqb-true w.0.kind STANDARD_INFORMATION w.2 in
-      let std = All-contains (λ (part : Part). part.kind ≡ STANDARD_INFORMATION → IsStandard part) r.parts w.0 (right.standard base) w.1 k in
+      let std = All-contains (λ (part : Part). part.kind ≡ STANDARD_INFORMATION → IsStandard part) r.parts w.0
+      (right.standard base) w.1 k in
       let c = Contains-HoldsPart (records_of v) f f w.0 (record {
         inside = in-table at;
         record_there = r;
@@ -205,7 +206,8 @@ module _ (v : VolumeView) (f : ℕ) (readable : IsReadableVolume v) (file : IsFi
           let same : x ≡ part = Contains-only x part (subst (λ xs. Contains xs part) e c) in
           let first = value-first x (subst (λ (p : Part). IsSome (content_value p.content)) (sym same) value) in
           let found : find (is_of STANDARD_INFORMATION []) all ≡ Some x = find-head (is_of STANDARD_INFORMATION []) all x [] e in
-          let told : first_part (parts_at v f STANDARD_INFORMATION []) ≡ Some x = ap (find is_first) e ∙ ap (λ b. cond b (Some x) None) first in
+          let told : first_part (parts_at v f STANDARD_INFORMATION []) ≡ Some x =
+          ap (find is_first) e ∙ ap (λ b. cond b (Some x) None) first in
           ap (λ o. unwrap_or (option_and_then (λ (part : Part). content_value part.content) o) []) found
           ∙ sym (ap (λ o. told_value (option_map told_by o)) told)
 
@@ -223,10 +225,12 @@ module _ (v : VolumeView) (f : ℕ) (readable : IsReadableVolume v) (file : IsFi
 
       by : (xs : List Part) → parts_at v f kind [] ≡ xs
           → option_map (λ part. show (content_at v all part)) (find (is_of kind []) all)
-          ≡ option_map (λ (t : Told). show (shown_content v (parts_at v f kind []))) (option_map told_by (first_part (parts_at v f kind [])))
+          ≡ option_map (λ (t : Told). show (shown_content v (parts_at v f kind [])))
+          (option_map told_by (first_part (parts_at v f kind [])))
       by [] e =
           ap (option_map (λ part. show (content_at v all part))) (find-nothing (is_of kind []) all e)
-          ∙ sym (ap (λ xs. option_map (λ (t : Told). show (shown_content v (parts_at v f kind []))) (option_map told_by (find is_first xs))) e)
+          ∙ sym (ap (λ xs. option_map (λ (t : Told). show (shown_content v (parts_at v f kind []))) (option_map told_by (find is_first xs)))
+          e)
       by (x ∷ rest) e =
           let c : Contains (parts_at v f kind []) x = subst (λ xs. Contains xs x) (sym e) (Contains-head x rest) in
           let is = attribute-at kind [] x other c in
@@ -264,25 +268,29 @@ node_with v dir all = record {
 
 -- by numbers, where the file is shown
 pub node-numbers : (v : VolumeView) (f : ℕ) → node_at v f
-    ≡ (if is_hidden (records_of v) f then None else option_map (λ (n : Numbers). node_with v n.directory (parts (records_of v) f)) (numbers_at
+    ≡ (if is_hidden (records_of v) f then None else
+    option_map (λ (n : Numbers). node_with v n.directory (parts (records_of v) f)) (numbers_at
     (records_of v) f))
 unfolding node_at node_by
 node-numbers v f = by (record_on v f)
   where
     pick : (hides base : Bool) (node : Node) (n : Numbers) → node_with v n.directory (parts (records_of v) f) ≡ node
         → (if base && not hides then Some node else None)
-        ≡ (if hides then None else option_map (λ (n : Numbers). node_with v n.directory (parts (records_of v) f)) (if base then Some n else None))
+        ≡ (if hides then None else
+        option_map (λ (n : Numbers). node_with v n.directory (parts (records_of v) f)) (if base then Some n else None))
     pick true true node n e = refl
     pick true false node n e = refl
     pick false true node n e = ap Some (sym e)
     pick false false node n e = refl
 
-    none : (hides : Bool) → None ≡ (if hides then None else option_map (λ (n : Numbers). node_with v n.directory (parts (records_of v) f)) None)
+    none : (hides : Bool)
+        → None ≡ (if hides then None else option_map (λ (n : Numbers). node_with v n.directory (parts (records_of v) f)) None)
     none true = refl
     none false = refl
 
     by : (o : Option Record) → option_and_then (node_on v f) o
-        ≡ (if is_hidden (records_of v) f then None else option_map (λ (n : Numbers). node_with v n.directory (parts (records_of v) f)) (numbers_by o))
+        ≡ (if is_hidden (records_of v) f then None else
+        option_map (λ (n : Numbers). node_with v n.directory (parts (records_of v) f)) (numbers_by o))
     by None = none (is_hidden (records_of v) f)
     by (Some r) = pick (is_hidden (records_of v) f) (is_base r) (node_by v r (parts (records_of v) f)) (numbers_in r) refl
 
@@ -295,7 +303,8 @@ hidden-none v f hidden =
 pub no-file-none : (v : VolumeView) (f : ℕ) → numbers_at (records_of v) f ≡ None → node_at v f ≡ None
 no-file-none v f none =
     node-numbers v f
-    ∙ ap (λ o. if is_hidden (records_of v) f then None else option_map (λ (n : Numbers). node_with v n.directory (parts (records_of v) f)) o) none
+    ∙ ap (λ o. if is_hidden (records_of v) f then None else
+    option_map (λ (n : Numbers). node_with v n.directory (parts (records_of v) f)) o) none
     ∙ by (is_hidden (records_of v) f)
   where
     by : (b : Bool) → (if b then None else option_map (λ (n : Numbers). node_with v n.directory (parts (records_of v) f)) None) ≡ None
@@ -307,7 +316,8 @@ pub security-of : (v : VolumeView) (f : ℕ) (node : Node) → node_at v f ≡ S
     → standard_security (standard_of (parts (records_of v) f)) ≡ node.security
 security-of v f node at = by (is_hidden (records_of v) f) (numbers_at (records_of v) f) (sym (node-numbers v f) ∙ at)
   where
-    by : (b : Bool) (o : Option Numbers) → (if b then None else option_map (λ (n : Numbers). node_with v n.directory (parts (records_of v) f)) o)
+    by : (b : Bool) (o : Option Numbers)
+        → (if b then None else option_map (λ (n : Numbers). node_with v n.directory (parts (records_of v) f)) o)
         ≡ Some node
         → standard_security (standard_of (parts (records_of v) f)) ≡ node.security
     by true o e = cc
@@ -366,7 +376,8 @@ module _ (changed : Key → Bool) (old new : VolumeView) (f : ℕ) (kept : Keeps
       let content = content-kept changed old new f REPARSE_POINT [] kept free (one REPARSE_POINT [] point-no-name) size in
       let point = point-first new f readable_new file_new
       ∙ ap (λ o. option_map (λ (t : Told). point_by (shown_content new (parts_at new f REPARSE_POINT []))) o) told
-      ∙ ap (λ content. option_map (λ (t : Told). point_by content) (option_map told_by (first_part (parts_at old f REPARSE_POINT [])))) content
+      ∙ ap (λ content. option_map (λ (t : Told). point_by content) (option_map told_by (first_part (parts_at old f REPARSE_POINT []))))
+      content
       ∙ sym (point-first old f readable file) in
       let streams = streams-kept changed old new f kept size one unseen fold in
       let others = others-kept changed old new f kept size one (λ kind name seen other times. unseen kind name seen times) fold in
@@ -380,7 +391,8 @@ module _ (changed : Key → Bool) (old new : VolumeView) (f : ℕ) (kept : Keeps
         others = others i;
       }
 
-  standard-same : IsUnseen changed f → IsFile old f → IsFile new f → standard_of (parts (records_of new) f) ≡ standard_of (parts (records_of old) f)
+  standard-same : IsUnseen changed f → IsFile old f → IsFile new f
+      → standard_of (parts (records_of new) f) ≡ standard_of (parts (records_of old) f)
   standard-same unseen file file_new = standard-kept changed old new f kept size readable readable_new bases unseen file file_new
 
   node-same : IsUnseen changed f → IsFile old f → IsFile new f → (dir : Bool)
@@ -400,7 +412,8 @@ module _ (changed : Key → Bool) (old new : VolumeView) (f : ℕ) (kept : Keeps
       node-numbers new f
       ∙ ap (λ b. if b then None else option_map (λ (n : Numbers). node_with new n.directory (parts (records_of new) f)) (numbers_at
       (records_of new) f)) hides
-      ∙ ap (λ o. if is_hidden (records_of old) f then None else o) (by (numbers_at (records_of new) f) (numbers_at (records_of old) f) refl refl same)
+      ∙ ap (λ o. if is_hidden (records_of old) f then None else o)
+      (by (numbers_at (records_of new) f) (numbers_at (records_of old) f) refl refl same)
       ∙ sym (node-numbers old f)
     where
       by : (o u : Option Numbers) → numbers_at (records_of new) f ≡ o → numbers_at (records_of old) f ≡ u

@@ -15,13 +15,15 @@ use Rattle.edit_def.specs.Places.{KeepsBitmap, KeepsBits, KeepsPlaces, StaysInPl
 
 pub places-then : (old mid new : VolumeView) (f : ℕ) → KeepsPlaces old mid f → KeepsPlaces mid new f → KeepsPlaces old new f
 places-then old mid new f x y = record {
-  told = SameItems-trans (filter is_stream (told_of old f)) (filter is_stream (told_of mid f)) (filter is_stream (told_of new f)) x.told y.told;
+  told = SameItems-trans (filter is_stream (told_of old f)) (filter is_stream (told_of mid f))
+      (filter is_stream (told_of new f)) x.told y.told;
   spots = λ vcn. y.spots vcn ∙ x.spots vcn;
 }
 
 bitmap-then : (old mid new : VolumeView) → KeepsBitmap old mid → KeepsBitmap mid new → KeepsBitmap old new
 bitmap-then old mid new x y = record {
-  told = SameItems-trans (map blank (filter is_stream (told_of old CLUSTER_BITMAP))) (map blank (filter is_stream (told_of mid CLUSTER_BITMAP)))
+  told = SameItems-trans (map blank (filter is_stream (told_of old CLUSTER_BITMAP)))
+      (map blank (filter is_stream (told_of mid CLUSTER_BITMAP)))
       (map blank (filter is_stream (told_of new CLUSTER_BITMAP))) x.told y.told;
   spots = λ vcn. y.spots vcn ∙ x.spots vcn;
 }
@@ -32,7 +34,8 @@ placed-then was between now x y = record {
   flags = y.flags ∙ x.flags;
 }
 
-bits-then : (old mid new : VolumeView) → SameVolume old.layout mid.layout → SameVolume mid.layout new.layout → KeepsBits old mid → KeepsBits mid new
+bits-then : (old mid new : VolumeView) → SameVolume old.layout mid.layout → SameVolume mid.layout new.layout
+    → KeepsBits old mid → KeepsBits mid new
     → KeepsBits old new
 bits-then old mid new v w x y = record {
   system = λ n low. y.system n low ∙ x.system n low;

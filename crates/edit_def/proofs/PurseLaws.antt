@@ -1,6 +1,6 @@
 -- Each part is in one purse.
-use Rattle.std.proofs.Common.{◌≡◌, ◌≢◌, ◌+◌, ◌==◌, ◌&&◌, ◌||◌, not, ℕ, Bool, true, false, cond, List, [], ◌∷◌, Option, Some, None, refl, sym, ap}
-use Rattle.std.proofs.Common.{◌∙◌, arith}
+use Rattle.std.proofs.Common.{◌≡◌, ◌≢◌, ◌+◌, ◌==◌, ◌&&◌, ◌||◌, not, ℕ, Bool, true, false, cond, List, [], ◌∷◌, Option, Some, None, refl}
+use Rattle.std.proofs.Common.{sym, ap, ◌∙◌, arith}
 use Rattle.std.specs.Prelude.{sum_by, filter}
 use Rattle.std.specs.List.{flat_map, range_with_len}
 use Rattle.std.proofs.lemmas.Bool.{ne_eqb, eqb-true}
@@ -65,7 +65,8 @@ records-split t a b f at s (n ∷ ns) =
       records-split t a b f at s ns,
     )
 
-pub all-split : (t a b : ℕ → Part → Bool) (f : Part → ℕ) (table : Records) → ((g : ℕ) → Splits (t g) (a g) (b g)) → sum_by f (all_chosen t table)
+pub all-split : (t a b : ℕ → Part → Bool) (f : Part → ℕ) (table : Records) → ((g : ℕ) → Splits (t g) (a g) (b g))
+    → sum_by f (all_chosen t table)
     ≡ sum_by f (all_chosen a table) + sum_by f (all_chosen b table)
 unfolding all_chosen
 all-split t a b f table s = records-split t a b f table.record_at s (range_with_len 0 table.count)
@@ -142,7 +143,8 @@ lists-none table =
     let s = all-split (is_listfile []) (is_listfile []) (is_listfile []) part_size table (λ g x. none-twice (is_list x)) in
     omega arith
 
-pub lists-sum : (table : Records) (files : List ℕ) → AreDistinct files → sum_by (λ f. sum_by part_size (all_chosen (is_list_of f) table)) files
+pub lists-sum : (table : Records) (files : List ℕ) → AreDistinct files
+    → sum_by (λ f. sum_by part_size (all_chosen (is_list_of f) table)) files
     ≡ sum_by part_size (all_chosen (is_listfile files) table)
 lists-sum table [] d = sym (lists-none table)
 lists-sum table (f ∷ fs) d =

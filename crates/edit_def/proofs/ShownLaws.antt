@@ -1,6 +1,7 @@
--- THE STREAMS and all other attributes that the tree shows of a file, by what its first parts tell: they stay where an edit names none of them.
-use Rattle.std.proofs.Common.{◌≡◌, ◌≢◌, ◌≤◌, ◌||◌, ◌&&◌, ◌==◌, not, ℕ, Bool, true, false, List, [], ◌∷◌, filter, map, refl, sym, ap, subst, inl}
-use Rattle.std.proofs.Common.{inr, ◌⊎◌, ◌∙◌}
+-- THE STREAMS and all other attributes that the tree shows of a file, by what its first parts tell:
+-- they stay where an edit names none of them.
+use Rattle.std.proofs.Common.{◌≡◌, ◌≢◌, ◌≤◌, ◌||◌, ◌&&◌, ◌==◌, not, ℕ, Bool, true, false, List, [], ◌∷◌, filter, map, refl, sym, ap, subst}
+use Rattle.std.proofs.Common.{inl, inr, ◌⊎◌, ◌∙◌}
 use Rattle.std.proofs.lemmas.Bool.{eq-eqb, eqb-true}
 use Rattle.std.specs.Cmp.{IsTotalOrder, nat_cmp_total, on_total, then_total}
 use Rattle.std.specs.Cmp.Lexicographic.{lists_total}
@@ -92,7 +93,8 @@ map-map g h [] = refl
 map-map g h (x ∷ xs) = ap (λ l. g (h x) ∷ l) (map-map g h xs)
 
 shown-told : {X : Type 0} (test : Told → Bool) (show : Told → X) (all : List Part)
-    → map (λ p. show (told_by p)) (filter (λ p. test (told_by p) && is_first p) all) ≡ map show (filter test (map told_by (filter is_first all)))
+    → map (λ p. show (told_by p)) (filter (λ p. test (told_by p) && is_first p) all)
+    ≡ map show (filter test (map told_by (filter is_first all)))
 shown-told test show all =
     ap (map (λ p. show (told_by p))) (filter-both (λ p. test (told_by p)) is_first all)
     ∙ sym (map-map show told_by (filter (λ p. test (told_by p)) (filter is_first all)))
@@ -132,7 +134,8 @@ module _ (changed : Key → Bool) (old new : VolumeView) (f : ℕ) (kept : Keeps
     is-new x c =
         let w = Contains-from_map (λ (t : Told). show old t.kind t.name) (filter test (told_of new f)) x c in
         let back = SameItems-sym (filter test (told_of old f)) (filter test (told_of new f)) tested in
-        let u = SameItems-passing (same_told w.0) (filter test (told_of new f)) (filter test (told_of old f)) w.0 back w.1 (same_told-itself w.0) in
+        let u = SameItems-passing (same_told w.0) (filter test (told_of new f)) (filter test (told_of old f)) w.0 back w.1
+        (same_told-itself w.0) in
         let e = same_told-exact w.0 u.0 u.2 in
         (u.0, u.1, ap (λ (t : Told). show old t.kind t.name) (sym e) ∙ w.2)
 
@@ -149,7 +152,8 @@ module _ (changed : Key → Bool) (old new : VolumeView) (f : ℕ) (kept : Keeps
         let n = apart p.0 q.0 (in-kept p.0 a.0 a.1) (in-kept q.0 b.0 b.1) k.1 in
         sym p.2 ∙ ap (λ kind. show old kind p.0.name) k.0 ∙ ap (show old q.0.kind) n ∙ q.2
 
-    pub shown-kept : in_order above (shown_by new (filter test (told_of new f))) ≡ in_order above (shown_by old (filter test (told_of old f)))
+    pub shown-kept : in_order above (shown_by new (filter test (told_of new f)))
+        ≡ in_order above (shown_by old (filter test (told_of old f)))
     shown-kept = agree ∙ by kept.order
       where
         agree : in_order above (shown_by new (filter test (told_of new f))) ≡ in_order above (shown_by old (filter test (told_of new f)))
@@ -173,7 +177,8 @@ module _ (changed : Key → Bool) (old new : VolumeView) (f : ℕ) (kept : Keeps
   module _ (unseen : IsUnseenButTimes changed f) (fold : volume_fold new ≡ volume_fold old) where
     same-content : (kind : ℕ) (name : List ℕ) → is_seen kind name ≡ true → kind ≢ STANDARD_INFORMATION → kind ≢ FILE_NAME
         → shown_content new (parts_at new f kind name) ≡ shown_content old (parts_at old f kind name)
-    same-content kind name seen times other = content-kept changed old new f kind name kept (unseen kind name seen times) (one kind name other) size
+    same-content kind name seen times other =
+        content-kept changed old new f kind name kept (unseen kind name seen times) (one kind name other) size
 
     abbrev is_stream_told : Told → Bool
     is_stream_told told = told.kind == DATA
@@ -187,7 +192,8 @@ module _ (changed : Key → Bool) (old new : VolumeView) (f : ℕ) (kept : Keeps
     streams-told v =
         ap (in_order (stream_above (volume_fold v))) (shown-told is_stream_told (λ t. stream_told v t.kind t.name) (parts (records_of v) f))
 
-    seen-data : (kind : ℕ) (name : List ℕ) → (kind == DATA) ≡ true → (is_seen kind name ≡ true) × (kind ≢ STANDARD_INFORMATION) × (kind ≢ FILE_NAME)
+    seen-data : (kind : ℕ) (name : List ℕ) → (kind == DATA) ≡ true
+        → (is_seen kind name ≡ true) × (kind ≢ STANDARD_INFORMATION) × (kind ≢ FILE_NAME)
     seen-data kind name e =
         let k = eqb-true kind DATA e in
         subst (λ n. (is_seen n name ≡ true) × (n ≢ STANDARD_INFORMATION) × (n ≢ FILE_NAME)) (sym k) (refl, data-no-times, data-no-name)
@@ -196,7 +202,8 @@ module _ (changed : Key → Bool) (old new : VolumeView) (f : ℕ) (kept : Keeps
     streams-kept =
         let o = units_order (volume_fold old) in
         streams-told new
-        ∙ ap (λ fold. in_order (stream_above fold) (map (λ (t : Told). stream_told new t.kind t.name) (filter is_stream_told (told_of new f)))) fold
+        ∙ ap (λ fold. in_order (stream_above fold)
+        (map (λ (t : Told). stream_told new t.kind t.name) (filter is_stream_told (told_of new f)))) fold
         ∙ shown-kept is_stream_told stream_told (stream_above (volume_fold old))
         (λ t e. let s = seen-data t.kind t.name e in (unseen t.kind t.name s.0 s.1, s.2))
         (λ t e. let s = seen-data t.kind t.name e in ap (λ content. record { name = units_in t.name; content = content })
@@ -260,7 +267,8 @@ module _ (changed : Key → Bool) (old new : VolumeView) (f : ℕ) (kept : Keeps
         let d = or-false _ (t.kind == DATA) p.0 in
         let n = or-false _ (t.kind == FILE_NAME) d.0 in
         let l = or-false (t.kind == STANDARD_INFORMATION) (t.kind == ATTRIBUTE_LIST) n.0 in
-        let i = and-either (t.kind == INDEX_ROOT) (t.kind == INDEX_ALLOCATION) (t.kind == BITMAP) (bytes_eq t.name (wide (codes "$I30"))) x.1 in (
+        let i = and-either (t.kind == INDEX_ROOT) (t.kind == INDEX_ALLOCATION) (t.kind == BITMAP)
+        (bytes_eq t.name (wide (codes "$I30"))) x.1 in (
           or-both _ _ (or-both (t.kind == ATTRIBUTE_LIST) (t.kind == FILE_NAME) l.1 n.1) i,
           λ same. let a = eq-eqb t.kind DATA same in let b = sym (ap not a) ∙ d.1 in cc,
           λ same. let a = eq-eqb t.kind STANDARD_INFORMATION same in let b = sym (ap not a) ∙ l.0 in cc,
@@ -272,7 +280,8 @@ module _ (changed : Key → Bool) (old new : VolumeView) (f : ℕ) (kept : Keeps
     others-kept =
         let o = placed_order (volume_fold old) in
         others-told new
-        ∙ ap (λ fold. in_order (other_above fold) (map (λ (t : Told). other_told new t.kind t.name) (filter is_other_told (told_of new f)))) fold
+        ∙ ap (λ fold. in_order (other_above fold) (map (λ (t : Told). other_told new t.kind t.name) (filter is_other_told (told_of new f))))
+        fold
         ∙ shown-kept is_other_told other_told (other_above (volume_fold old))
         (λ t e. let s = seen-other t e in (unseen t.kind t.name s.0 s.1 s.2, s.3))
         (λ t e. let s = seen-other t e in ap (λ content. record { kind = t.kind; name = units_in t.name; value = content })

@@ -30,7 +30,8 @@ all_chosen-Replaces test old new n c h =
     (λ m ne. ap (chosen test m) (c.others m ne)))
 
 pub all_chosen-edit : (test : ℕ → Part → Bool) (old new : Records) (n : ℕ) (was now : List Part) → (e : EditsAt old new n was now)
-    → Replaces (all_chosen test old) (all_chosen test new) (filter (test (file_of n e.was_record)) was) (filter (test (file_of n e.was_record)) now)
+    → Replaces (all_chosen test old) (all_chosen test new) (filter (test (file_of n e.was_record)) was)
+    (filter (test (file_of n e.was_record)) now)
 all_chosen-edit test old new n was now e =
     let f = file_of n e.was_record in
     let own : chosen test n (old.record_at n) ≡ filter (test f) e.was_record.parts = ap (chosen test n) e.was_at in

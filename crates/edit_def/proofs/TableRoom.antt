@@ -1,6 +1,6 @@
 -- The room of a volume that its clauses tell, and what a bill that is not refused leaves free.
-use Rattle.std.proofs.Common.{◌≡◌, ◌≤◌, ◌+◌, ◌-◌, ◌==◌, ◌&&◌, not, ℕ, suc, Bool, true, false, cond, List, [], ◌∷◌, ◌++◌, length, Option, Some}
-use Rattle.std.proofs.Common.{None, refl, sym, ap, inl, inr, ◌∙◌, arith}
+use Rattle.std.proofs.Common.{◌≡◌, ◌≤◌, ◌+◌, ◌-◌, ◌==◌, ◌&&◌, not, ℕ, suc, Bool, true, false, cond, List, [], ◌∷◌, ◌++◌, length, Option}
+use Rattle.std.proofs.Common.{Some, None, refl, sym, ap, inl, inr, ◌∙◌, arith}
 use Rattle.std.specs.Prelude.{sum_by, filter, count_by, is_none, is_some, All, IsSome}
 use Rattle.std.specs.List.{flat_map, range_with_len}
 use Rattle.std.proofs.lemmas.Bool.{cases_eq, eq-eqb, ne_eqb}
@@ -54,7 +54,8 @@ records-chosen h q at (n ∷ ns) =
     ∙ ap (λ r. filter q (parts_in (at n) n h) ++ r) (records-chosen h q at ns)
     ∙ sym (filter-append q (parts_in (at n) n h) (flat_map (λ n. parts_in (at n) n h) ns))
 
-pub all_chosen-file : (records : Records) (h : ℕ) (q : Part → Bool) → all_chosen (λ g p. (g == h) && q p) records ≡ filter q (parts records h)
+pub all_chosen-file : (records : Records) (h : ℕ) (q : Part → Bool)
+    → all_chosen (λ g p. (g == h) && q p) records ≡ filter q (parts records h)
 unfolding all_chosen parts
 all_chosen-file records h q = records-chosen h q records.record_at (range_with_len 0 records.count)
 
@@ -93,7 +94,8 @@ one-record : (o : Option Record) → one_if (is_some o) + cond (is_none o) 1 0 �
 one-record None = refl
 one-record (Some r) = refl
 
-records-used : (at : ℕ → Option Record) (ns : List ℕ) → sum_by (λ n. one_if (is_some (at n))) ns + count_by (λ n. is_none (at n)) ns ≡ length ns
+records-used : (at : ℕ → Option Record) (ns : List ℕ)
+    → sum_by (λ n. one_if (is_some (at n))) ns + count_by (λ n. is_none (at n)) ns ≡ length ns
 records-used at [] = refl
 records-used at (n ∷ ns) = omega (
   arith,
@@ -105,7 +107,8 @@ records-used at (n ∷ ns) = omega (
 
 pub unused-is : (view : VolumeView) → in_use (records_of view) + unused_records view ≡ view.layout.count - 24
 unfolding unused_records
-unused-is view = records-used (record_on view) (range_with_len 24 (view.layout.count - 24)) ∙ length-range_with_len 24 (view.layout.count - 24)
+unused-is view = records-used (record_on view) (range_with_len 24 (view.layout.count - 24))
+    ∙ length-range_with_len 24 (view.layout.count - 24)
 
 ones-most : (f : ℕ → Bool) (ns : List ℕ) → sum_by (λ n. one_if (f n)) ns ≤ length ns
 ones-most f [] = omega arith

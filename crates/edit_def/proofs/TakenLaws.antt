@@ -20,7 +20,8 @@ use Rattle.edit_def.proofs.TableRoom.{IsRoom-view}
 use Rattle.volume_def.specs.Room.{unowned_clusters, unused_records}
 
 -- OWNERS grow by at most the need.
-pub owners-taken : (old new : VolumeView) (plan : Plan) (bill : Bill) (goes : ℕ → Bool) (units : ℕ → ℕ) → plan.size ≡ cluster_bytes old.layout
+pub owners-taken : (old new : VolumeView) (plan : Plan) (bill : Bill) (goes : ℕ → Bool) (units : ℕ → ℕ)
+    → plan.size ≡ cluster_bytes old.layout
     → AreDistinct plan.files → IsTabled old → HasRecordBits old → new.layout.clusters ≡ old.layout.clusters
     → ((n : ℕ) → MeetsOwners (records_of old) old.layout.clusters n) → ((n : ℕ) → MeetsOwners (records_of new) new.layout.clusters n)
     → IsPlanned plan (room_of old plan) (wants_of plan bill goes units) → AreTouched plan (room_of old plan) plan.files bill.touched
@@ -70,7 +71,8 @@ records-taken old new plan bill goes units pos planned touched keeps =
     )
 
 -- THE TABLE grows only where too few records are free.
-pub count-taken : (old new : VolumeView) (plan : Plan) (bill : Bill) (goes : ℕ → Bool) (units : ℕ → ℕ) → plan.size ≡ cluster_bytes old.layout
+pub count-taken : (old new : VolumeView) (plan : Plan) (bill : Bill) (goes : ℕ → Bool) (units : ℕ → ℕ)
+    → plan.size ≡ cluster_bytes old.layout
     → AreDistinct plan.files → IsTabled old → HasRecordBits old
     → ((n : ℕ) → MeetsOwners (records_of old) old.layout.clusters n)
     → IsPlanned plan (room_of old plan) (wants_of plan bill goes units) → AreTouched plan (room_of old plan) plan.files bill.touched

@@ -48,7 +48,8 @@ same_number (Some a) None = false
 same_number (Some a) (Some b) = a == b
 
 abbrev pub same_sized : Sized → Sized → Bool
-same_sized a b = (a.allocated == b.allocated) && ((a.real == b.real) && ((a.initialized == b.initialized) && same_number a.compressed b.compressed))
+same_sized a b = (a.allocated == b.allocated)
+    && ((a.real == b.real) && ((a.initialized == b.initialized) && same_number a.compressed b.compressed))
 
 abbrev pub same_sizes : Option Sized → Option Sized → Bool
 same_sizes None None = true
@@ -57,7 +58,8 @@ same_sizes (Some a) None = false
 same_sizes (Some a) (Some b) = same_sized a b
 
 abbrev pub same_told : Told → Told → Bool
-same_told a b = (a.kind == b.kind) && (bytes_eq a.name b.name && ((a.flags == b.flags) && (same_bytes a.value b.value && same_sizes a.sizes b.sizes)))
+same_told a b = (a.kind == b.kind)
+    && (bytes_eq a.name b.name && ((a.flags == b.flags) && (same_bytes a.value b.value && same_sizes a.sizes b.sizes)))
 
 same_bytes-exact : (a b : Option (List ℕ)) → same_bytes a b ≡ true → a ≡ b
 same_bytes-exact None None e = refl
@@ -140,7 +142,8 @@ told-first v f kind name =
     let all = parts (records_of v) f in
     find-map told_by (tells kind name) (filter is_first all)
     ∙ ap (option_map told_by) (find-filter (is_of kind name) is_first all
-    ∙ find-agree (λ x. is_of kind name x && is_first x) (λ x. is_first x && is_of kind name x) all (λ x c. and-swap (is_first x) (is_of kind name x))
+    ∙ find-agree (λ x. is_of kind name x && is_first x) (λ x. is_first x && is_of kind name x) all
+    (λ x c. and-swap (is_first x) (is_of kind name x))
     ∙ sym (find-filter is_first (is_of kind name) all))
 
 pub told-count : (v : VolumeView) (f kind : ℕ) (name : List ℕ)
@@ -149,7 +152,8 @@ told-count v f kind name =
     let all = parts (records_of v) f in
     count-map told_by (tells kind name) (filter is_first all)
     ∙ count-filter is_first (is_of kind name) all
-    ∙ count-agree (λ x. is_of kind name x && is_first x) (λ x. is_first x && is_of kind name x) all (λ x c. and-swap (is_first x) (is_of kind name x))
+    ∙ count-agree (λ x. is_of kind name x && is_first x) (λ x. is_first x && is_of kind name x) all
+    (λ x c. and-swap (is_first x) (is_of kind name x))
     ∙ sym (count-filter (is_of kind name) is_first all)
 
 -- an attribute that is not named
@@ -196,7 +200,8 @@ counts-kept changed old new f kind name kept e =
     ∙ filter-count keep (tells kind name) (told_of old f) through
 
 -- VALUES. The value by what the first part tells.
-same-content : (a b : Content) → content_value a ≡ content_value b → option_map sized (content_extent a) ≡ option_map sized (content_extent b)
+same-content : (a b : Content) → content_value a ≡ content_value b
+    → option_map sized (content_extent a) ≡ option_map sized (content_extent b)
     → (cluster : ℕ → List ℕ) (size : ℕ) (extents : List Part) → value_by cluster size extents a ≡ value_by cluster size extents b
 same-content (Value v) (Value w) e s cluster size extents = cc
 same-content (Value v) (Clusters x r) e s cluster size extents = cc
@@ -276,7 +281,8 @@ part-file v f part bases c =
     let base = subst (λ o. IfSome o (λ r. IfSome r.header.base (NamesBase (records_of v)))) h.1.held (bases h.0) in
     by h.0 h.1.record_there h.1.held h.1.record_there.header.base refl h.1.file base
   where
-    only : (o : Option Record) (s : ℕ) → IsSomeAnd o (λ r. IsTrue (is_base r) × (r.header.sequence ≡ s)) → IsSomeAnd o (λ r. IsTrue (is_base r))
+    only : (o : Option Record) (s : ℕ) → IsSomeAnd o (λ r. IsTrue (is_base r) × (r.header.sequence ≡ s))
+        → IsSomeAnd o (λ r. IsTrue (is_base r))
     only None s is = is
     only (Some r) s is = is.0
 
@@ -305,7 +311,8 @@ one-first v f kind name bases extents other = by (parts_at v f kind name) refl
         let k = eqb-true part.kind kind p.0 in
         let n = (bytes_eq-Decides part.name name).0 p.1 in
         let all = parts (records_of v) f in
-        let each = base-file (record_on v f) (All (λ part. part.kind ≢ FILE_NAME → AreAttribute (cluster_bytes v.layout) f (parts_like part all)) all)
+        let each = base-file (record_on v f)
+        (All (λ part. part.kind ≢ FILE_NAME → AreAttribute (cluster_bytes v.layout) f (parts_like part all)) all)
         (part-file v f part bases w.0) (extents f) in
         let is = All-contains (λ (part : Part). part.kind ≢ FILE_NAME → AreAttribute (cluster_bytes v.layout) f
         (parts_like part all)) all part each w.0

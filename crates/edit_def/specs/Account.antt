@@ -1,10 +1,11 @@
 -- THE ACCOUNT: the room of a volume as one command sees it, the bill of one call, and what a call may take by it.
-use Rattle.std.specs.Prelude.{◌≡◌, ◌≤◌, ◌<◌, ◌+◌, ◌-◌, ◌*◌, max, ℕ, nat_le, List, [], ◌∷◌, length, sum_by, Contains, if◌then◌else◌, ◌==◌, ◌||◌}
-use Rattle.std.specs.Prelude.{Bool, false, true}
+use Rattle.std.specs.Prelude.{◌≡◌, ◌≤◌, ◌<◌, ◌+◌, ◌-◌, ◌*◌, max, ℕ, nat_le, List, [], ◌∷◌, length, sum_by, Contains, if◌then◌else◌, ◌==◌}
+use Rattle.std.specs.Prelude.{◌||◌, Bool, false, true}
 use Rattle.tree_model.specs.Need.{index_clusters, records_wanted, parts_wanted, Bill, Touched}
 use Rattle.ntfs_def.specs.Rounded.{clusters_for}
 
--- What stays through a command: the bytes of a cluster, the files whose lists it may lengthen, and a bound on the units of their attribute names.
+-- What stays through a command: the bytes of a cluster, the files whose lists it may lengthen,
+-- and a bound on the units of their attribute names.
 pub record Plan : Type 0 where
   pub size : ℕ
   pub files : List ℕ

@@ -1,6 +1,7 @@
 -- WHAT AN ATTRIBUTE'S HEADER TELLS that no part has: the unit of compression and the flag of indexed values.
 -- Layout: Linux-NTFS documentation, "Attribute Headers"; Carrier, File System Forensic Analysis, chapter 13.
-use Rattle.std.specs.Prelude.{◌≡◌, ◌⊎◌, ℕ, ◌==◌, not, All, Bool, true, Contains, List, [], filter, flat_map, map, slice_index, if◌then◌else◌}
+use Rattle.std.specs.Prelude.{◌≡◌, ◌⊎◌, ℕ, ◌==◌, not, All, Bool, true, Contains, List, [], filter, flat_map}
+use Rattle.std.specs.Prelude.{map, slice_index, if◌then◌else◌}
 use Rattle.std.specs.List.{range_with_len}
 use Rattle.std.specs.Option.{option_map_or}
 use Rattle.vol_bytes.specs.Field.{u16_at}

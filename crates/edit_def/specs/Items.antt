@@ -41,6 +41,7 @@ stream_sizes (Some part) = content_sizes part.content
 -- The key of an entry tells what its file does: 0x08 creation, 0x10 modification, 0x18 record change, 0x20 access, 0x28 the allocated
 -- and 0x30 the real size of the unnamed stream, 0x38 the DOS flags.
 pub record IsCurrent (view : VolumeView) (f : ℕ) (key : List ℕ) : Type 0 where
-  pub times : u64_at key 0x08 ∷ u64_at key 0x10 ∷ u64_at key 0x18 ∷ u64_at key 0x20 ∷ [] ≡ standard_times (standard_of (parts (records_of view) f))
+  pub times : u64_at key 0x08 ∷ u64_at key 0x10 ∷ u64_at key 0x18 ∷ u64_at key 0x20 ∷ []
+      ≡ standard_times (standard_of (parts (records_of view) f))
   pub flags : bit_and (u32_at key 0x38) SHOWN_FLAGS ≡ standard_flags (standard_of (parts (records_of view) f))
   pub sizes : ◌≡◌ {A = ℕ × ℕ} (u64_at key 0x28, u64_at key 0x30) (stream_sizes (first_part (parts_at view f DATA [])))

@@ -1,9 +1,11 @@
 -- WHAT AN EDIT KEEPS of the attributes of files: all but those that it names.
-use Rattle.std.specs.Prelude.{◌≡◌, ◌≢◌, ◌⊎◌, ℕ, ◌==◌, ◌&&◌, ◌||◌, not, Bool, true, false, List, Contains, codes, filter, map, Option, option_map}
+use Rattle.std.specs.Prelude.{◌≡◌, ◌≢◌, ◌⊎◌, ℕ, ◌==◌, ◌&&◌, ◌||◌, not, Bool, true, false, List, Contains, codes, filter}
+use Rattle.std.specs.Prelude.{map, Option, option_map}
 use Rattle.std.specs.Str.{bytes_eq}
 use Rattle.ntfs_def.specs.Attribute.{ExtentHeader}
 use Rattle.ntfs_def.specs.Units.{units_in, wide}
-use Rattle.ntfs_def.specs.declared.kinds.TheConstants.{ATTRIBUTE_LIST, BITMAP, FILE_NAME, INDEX_ALLOCATION, INDEX_ROOT, STANDARD_INFORMATION}
+use Rattle.ntfs_def.specs.declared.kinds.TheConstants.{ATTRIBUTE_LIST, BITMAP, FILE_NAME}
+use Rattle.ntfs_def.specs.declared.kinds.TheConstants.{INDEX_ALLOCATION, INDEX_ROOT, STANDARD_INFORMATION}
 use Rattle.volume_def.specs.Files.{Part, content_extent, content_value, parts, parts_at, records_of}
 use Rattle.volume_def.specs.Values.{KeepsClusters, is_first, spot_at}
 use Rattle.volume_def.specs.View.{VolumeView}

@@ -1,7 +1,7 @@
 -- EDITS OF NAMES: what links and directories see of the records of a volume, and what a call changes of it. The parts of a file may
 -- move among its records meanwhile: its names are told up to their order.
-use Rattle.std.specs.Prelude.{◌≡◌, ◌≢◌, ℕ, ◌+◌, ◌≤◌, ◌==◌, ◌&&◌, ◌∷◌, [], List, ◌++◌, ◌⊎◌, Bool, false, All, count_by, filter, length, nat_lt}
-use Rattle.std.specs.Prelude.{not, IfSome, IsTrue, Option, Some, None, if◌then◌else◌}
+use Rattle.std.specs.Prelude.{◌≡◌, ◌≢◌, ℕ, ◌+◌, ◌≤◌, ◌==◌, ◌&&◌, ◌∷◌, [], List, ◌++◌, ◌⊎◌, Bool, false, All, count_by, filter, length}
+use Rattle.std.specs.Prelude.{nat_lt, not, IfSome, IsTrue, Option, Some, None, if◌then◌else◌}
 use Rattle.ntfs_def.specs.FileName.{FileName}
 use Rattle.ntfs_def.specs.Record.{Reference}
 use Rattle.ntfs_def.specs.declared.records.TheConstants.{FIRST_ORDINARY, ROOT}

@@ -25,7 +25,8 @@ no_room_alone view f k = no_room_for view (one_file k (touched_alone view f))
 
 -- of `put_runs`: clusters newly named, and runs more than before
 abbrev pub runs_wants : ℕ → ℕ → ℕ → Wants
-runs_wants f more grown = record { clusters = more; parts = at_file f (1 + grown / 40); units = λ g. 0; goes = λ g. false; records = 1 + grown / 40 }
+runs_wants f more grown =
+    record { clusters = more; parts = at_file f (1 + grown / 40); units = λ g. 0; goes = λ g. false; records = 1 + grown / 40 }
 
 -- of an attribute that comes, with a name of so many units
 abbrev pub part_wants : ℕ → ℕ → Wants
@@ -40,7 +41,8 @@ write_wants f units k = record { clusters = k; parts = at_file f (8 + k); units 
 pub record IsTabled (view : VolumeView) : Type 0 where
   pub size : 512 ≤ cluster_bytes view.layout
   pub least : 24 ≤ view.layout.count
-  pub covered : 1024 * view.layout.count ≤ sum_by part_size (filter (is_of DATA []) (parts (records_of view) MFT)) * cluster_bytes view.layout
+  pub covered : 1024 * view.layout.count ≤ sum_by part_size (filter (is_of DATA []) (parts (records_of view) MFT))
+      * cluster_bytes view.layout
 
 -- what the bill of one file says of that file
 pub record IsBilled (view : VolumeView) (f units k : ℕ) (touched : Touched) : Type 0 where

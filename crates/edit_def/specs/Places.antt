@@ -26,7 +26,8 @@ abbrev pub blank : Told → Told
 blank told = record told { value = option_map (λ value. replicate (length value) 0) told.value }
 
 pub record KeepsBitmap (old new : VolumeView) : Type 0 where
-  pub told : SameItems (map blank (filter is_stream (told_of old CLUSTER_BITMAP))) (map blank (filter is_stream (told_of new CLUSTER_BITMAP)))
+  pub told : SameItems (map blank (filter is_stream (told_of old CLUSTER_BITMAP)))
+      (map blank (filter is_stream (told_of new CLUSTER_BITMAP)))
   pub spots : (vcn : ℕ) → spot_at (cluster_bits new) vcn ≡ spot_at (cluster_bits old) vcn
 
 -- THE TABLE of records and its bitmap may grow: no cluster of them is moved or given back, and their flags stay.
@@ -46,7 +47,8 @@ pub record KeepsBits (old new : VolumeView) : Type 0 where
 
 -- THE MIRROR behind the copies of records 0 to 3: it holds what it held. A cluster has 4,096 bytes at most, so the copies end with one.
 abbrev pub KeepsMirrorEnd : VolumeView → VolumeView → Type 0
-KeepsMirrorEnd old new = (vcn cluster : ℕ) → 4096 ≤ vcn * cluster_bytes old.layout → spot_at (parts_at old MFT_MIRROR DATA []) vcn ≡ At cluster
+KeepsMirrorEnd old new = (vcn cluster : ℕ) → 4096 ≤ vcn * cluster_bytes old.layout
+    → spot_at (parts_at old MFT_MIRROR DATA []) vcn ≡ At cluster
     → new.cluster cluster ≡ old.cluster cluster
 
 -- ALL OF IT: the attributes that every edit may write, but for attribute lists.

@@ -1,6 +1,6 @@
 -- The room of a volume, from its records: each owned cluster is in one purse.
-use Rattle.std.specs.Prelude.{◌≡◌, ℕ, ◌+◌, ◌-◌, ◌*◌, ◌≤◌, ◌==◌, ◌&&◌, ◌||◌, not, nat_le, nat_lt, Bool, true, false, List, [], length, filter}
-use Rattle.std.specs.Prelude.{sum_by, Option, Some, None, is_some, max, if◌then◌else◌}
+use Rattle.std.specs.Prelude.{◌≡◌, ℕ, ◌+◌, ◌-◌, ◌*◌, ◌≤◌, ◌==◌, ◌&&◌, ◌||◌, not, nat_le, nat_lt, Bool, true, false, List, [], length}
+use Rattle.std.specs.Prelude.{filter, sum_by, Option, Some, None, is_some, max, if◌then◌else◌}
 use Rattle.std.specs.List.{flat_map, range_with_len}
 use Rattle.ntfs_def.specs.declared.kinds.TheConstants.{BITMAP, DATA, STANDARD_INFORMATION}
 use Rattle.ntfs_def.specs.declared.records.TheConstants.{FIRST_ORDINARY, MFT}
@@ -89,8 +89,8 @@ is_listfile files g part = is_list part && is_among files g
 abbrev pub all_owned : Records → ℕ
 all_owned records = sum_by part_size (all_chosen (λ g part. true) records)
 
--- WHAT AN EDIT OF ONE RECORD COSTS: file f has the parts `now` in place of `was`, which are no lists, nor the table's or its bitmap's. Names
--- that come are of so many units at most, and entries of a list grow by whole entries of the longest name.
+-- WHAT AN EDIT OF ONE RECORD COSTS: file f has the parts `now` in place of `was`, which are no lists, nor the table's or its bitmap's.
+-- Names that come are of so many units at most, and entries of a list grow by whole entries of the longest name.
 pub record Costs (old new : Records) (n f : ℕ) (was now : List Part) (wants : Wants) : Type 0 where
   pub no_list_was : filter is_list was ≡ []
   pub no_list_now : filter is_list now ≡ []

@@ -15,8 +15,8 @@ pub record KeepsHeader (was now : Header) : Type 0 where
   pub number : now.number ≡ was.number
   pub next_id : was.next_id ≤ now.next_id
 
--- A record that is in use neither before nor after is not written. One that is freed counts up; one that is taken keeps its number. One that
--- stays in use keeps it, with its header, or was freed and taken again.
+-- A record that is in use neither before nor after is not written. One that is freed counts up; one that is taken keeps its number. One
+-- that stays in use keeps it, with its header, or was freed and taken again.
 pub record KeepsUnused (old new : VolumeView) : Type 0 where
   pub idle : (n : ℕ) → n < old.layout.count → record_on old n ≡ None → record_on new n ≡ None → new.block n ≡ old.block n
   pub freed : (n : ℕ) → n < old.layout.count → is_some (record_on old n) ≡ true → record_on new n ≡ None

@@ -16,7 +16,8 @@ ghost use Rattle.volume_def.specs.View.{VolumeView};
 ghost use Rattle.tree_model.specs.Hidden.{is_hidden};
 ghost use Rattle.tree_model.specs.Need.{Bill, need_of, records_wanted};
 ghost use Rattle.tree_model.specs.Reading.{node_at};
-ghost use Rattle.edit_def.specs.Account.{AreDistinct, AreTouched, IsPlanned, Keeps, LacksParts, LacksRoom, Plan, Room, Wants, Within, also, is_among, wants_of};
+ghost use Rattle.edit_def.specs.Account.{AreDistinct, AreTouched, IsPlanned, Keeps, LacksParts, LacksRoom, Plan, Room, Wants, Within};
+ghost use Rattle.edit_def.specs.Account.{also, is_among, wants_of};
 ghost use Rattle.edit_def.specs.Edited.{Edited, StoresBits, is_low};
 ghost use Rattle.edit_def.specs.Items.{IsCurrent, KeepsItems};
 ghost use Rattle.edit_def.specs.Kept.{IsUnseen, KeepsBut, KeepsFile, Key, either, key_of};
@@ -80,7 +81,8 @@ pub fn kept_indexes()
 /// (`records`); and the table of records grows only where too few of them are free (`count`). `plan` names the files that the bill
 /// touches, and any plan whose names are long enough, and that has no file that goes, serves (`planned`).
 pub fn room_taken()
-    ensures owners { (old new : VolumeView) (plan : Plan) (bill : Bill) (goes : ℕ → Bool) (units : ℕ → ℕ) → plan.size ≡ cluster_bytes old.layout
+    ensures owners { (old new : VolumeView) (plan : Plan) (bill : Bill) (goes : ℕ → Bool) (units : ℕ → ℕ)
+        → plan.size ≡ cluster_bytes old.layout
         → AreDistinct plan.files → IsTabled old → HasRecordBits old → new.layout.clusters ≡ old.layout.clusters
         → ((n : ℕ) → MeetsOwners (records_of old) old.layout.clusters n)
         → ((n : ℕ) → MeetsOwners (records_of new) new.layout.clusters n)
@@ -91,7 +93,8 @@ pub fn room_taken()
         → IsPlanned plan (room_of old plan) (wants_of plan bill goes units) → AreTouched plan (room_of old plan) plan.files bill.touched
         → Keeps (room_of old) (room_of new) (wants_of plan bill goes units)
         → in_use (records_of new) ≤ in_use (records_of old) + records_wanted bill }
-    ensures count { (old new : VolumeView) (plan : Plan) (bill : Bill) (goes : ℕ → Bool) (units : ℕ → ℕ) → plan.size ≡ cluster_bytes old.layout
+    ensures count { (old new : VolumeView) (plan : Plan) (bill : Bill) (goes : ℕ → Bool) (units : ℕ → ℕ)
+        → plan.size ≡ cluster_bytes old.layout
         → AreDistinct plan.files → IsTabled old → HasRecordBits old → ((n : ℕ) → MeetsOwners (records_of old) old.layout.clusters n)
         → IsPlanned plan (room_of old plan) (wants_of plan bill goes units) → AreTouched plan (room_of old plan) plan.files bill.touched
         → Keeps (room_of old) (room_of new) (wants_of plan bill goes units) → records_wanted bill ≤ unused_records old

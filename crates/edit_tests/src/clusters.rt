@@ -1,4 +1,5 @@
-//! Streams in clusters, in whole runs: they are cut and removed, and their clusters are free then. The stream of `h` has a cluster, a hole of
+//! Streams in clusters, in whole runs: they are cut and removed, and their clusters are free then.
+//! The stream of `h` has a cluster, a hole of
 //! 16 clusters, and a cluster of which 8 bytes were written.
 use laid_volumes::cases::Place::{Entry, Image};
 use laid_volumes::cases::{Stand, all_stand, fails_safely, leaves};
@@ -46,8 +47,8 @@ const CUTS: [Row; 27] = [
     ("cat /a", "data 68656c6c6f\nok\n"),
 ];
 
-// Of the clusters 200 to 207 the first four were taken; two of them are those of the packed stream, and stay so. The entry tells the moment,
-// the flags, and that nothing is allocated and real.
+// Of the clusters 200 to 207 the first four were taken; two of them are those of the packed stream, and stay so. The entry tells the
+// moment, the flags, and that nothing is allocated and real.
 const CUT_BEFORE: [Stand; 1] = [(Image(CLUSTER_BITS + 25), &[0x0F])];
 
 const CUT_LEFT: [Stand; 5] = [
@@ -191,8 +192,8 @@ fn a_long_stream_is_cut(rt: HostRuntime) -> Result<(), test::Fail> {
 // The last cluster goes.
 const CUT: [Row; 2] = [("time 5", "ok\n"), ("truncate /h 4096", "ok\n")];
 
-// The mark in two sectors, one of the bitmap of clusters, two of record 29, eight of the root's index, and the mark again: fifteen, and none
-// behind.
+// The mark in two sectors, one of the bitmap of clusters, two of record 29, eight of the root's index, and the mark again: fifteen, and
+// none behind.
 #[test]
 fn a_cut_fails_safely(rt: HostRuntime) -> Result<(), test::Fail> {
     let image = volume_with_all(rt.alloc())?;

@@ -1,5 +1,5 @@
-//! Streams in clusters that get longer, in whole runs: by bytes over those that were written and right behind them, into the last cluster and
-//! into new ones, and by lengths that end in the last cluster.
+//! Streams in clusters that get longer, in whole runs: by bytes over those that were written and right behind them, into the last cluster
+//! and into new ones, and by lengths that end in the last cluster.
 use laid_volumes::cases::Place::{Entry, Image, Record};
 use laid_volumes::cases::{LongRow, Stand, all_stand, edited, edited_by, edited_long, sound};
 use laid_volumes::damage::{CLUSTER_BITS, put};

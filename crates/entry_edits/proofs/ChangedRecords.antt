@@ -1,6 +1,7 @@
 -- THE RECORDS OF AN INDEX CHANGED, where no cluster has two owners: what is beside them is as it was, and each clause but that on indexes
 -- holds still.
-use Rattle.std.proofs.Common.{◌≡◌, ◌≢◌, ◌*◌, ◌<◌, ◌≤◌, ℕ, true, false, List, [], length, refl, sym, ap, subst, inl, inr, ◌∙◌, filter, map, arith, true≢false}
+use Rattle.std.proofs.Common.{◌≡◌, ◌≢◌, ◌*◌, ◌<◌, ◌≤◌, ℕ, true, false, List, [], length, refl, sym, ap, subst, inl, inr, ◌∙◌, filter}
+use Rattle.std.proofs.Common.{map, arith, true≢false}
 use Rattle.std.specs.Prelude.{◌↔◌, ◌⊎◌, IsSome}
 use Rattle.std.proofs.Math.Path.{fun_ext}
 use Rattle.std.proofs.lemmas.Bool.{and_from, cases_eq, eq-eqb}
@@ -18,7 +19,8 @@ use Rattle.volume_def.specs.ListsClause.{MeetsLists}
 use Rattle.volume_def.specs.Readable.{IsReadableVolume}
 use Rattle.volume_def.specs.Looked.{with_clusters}
 use Rattle.volume_def.specs.OwnersClause.{times_owned}
-use Rattle.volume_def.specs.Sound.{Attributes, CaseTable, Clause, ClusterBits, Extents, Holds, Indexes, Limits, Links, Lists, Meets, Mirror, MirrorPlace, Owners, RecordBits, References, Shape, Version, rank_of}
+use Rattle.volume_def.specs.Sound.{Attributes, CaseTable, Clause, ClusterBits, Extents, Holds, Indexes, Limits, Links, Lists, Meets, Mirror}
+use Rattle.volume_def.specs.Sound.{MirrorPlace, Owners, RecordBits, References, Shape, Version, rank_of}
 use Rattle.volume_def.specs.Table.{cluster_bytes}
 use Rattle.volume_def.specs.Values.{KeepsClusters, is_first, spot_at, value_on}
 use Rattle.volume_def.specs.VersionClause.{MeetsMirror, MeetsMirrorPlace, Mirrors}

@@ -1,5 +1,6 @@
 -- THE CLAUSE ON INDEXES where an entry was refreshed, and each other clause with it.
-use Rattle.std.proofs.Common.{◌≡◌, ◌≢◌, ◌<◌, ◌≤◌, ◌==◌, ◌&&◌, ◌||◌, ℕ, Bool, true, false, cond, List, [], ◌∷◌, map, filter, Option, Some, None, refl, sym, ap, subst, inl, inr, ◌∙◌, arith}
+use Rattle.std.proofs.Common.{◌≡◌, ◌≢◌, ◌<◌, ◌≤◌, ◌==◌, ◌&&◌, ◌||◌, ℕ, Bool, true, false, cond, List, [], ◌∷◌, map, filter, Option, Some}
+use Rattle.std.proofs.Common.{None, refl, sym, ap, subst, inl, inr, ◌∙◌, arith}
 use Rattle.std.specs.Prelude.{IfSome, IsTrue, codes, count_by}
 use Rattle.std.specs.Str.{bytes_eq}
 use Rattle.std.proofs.lemmas.Bool.{cases_eq, ne_eqb}
@@ -12,8 +13,10 @@ use Rattle.list_laws.specs.SameItems.{SameItems}
 use Rattle.list_laws.proofs.SameItemsLaws.{SameItems-same}
 use Rattle.volume_def.specs.FileNames.{is_in_directory, links}
 use Rattle.volume_def.specs.Files.{Record, is_base, is_directory, record_on, records_of}
-use Rattle.volume_def.specs.IndexesClause.{IsDirectoryIndex, KeyRule, MeetsIndexes, MeetsViewIndex, StandsInExtend, hash_rule, id_rule, index_nodes, is_in_extend, word_rule}
-use Rattle.volume_def.specs.Sound.{Attributes, CaseTable, Clause, ClusterBits, Extents, Holds, Indexes, IsSound, Limits, Links, Lists, Mirror, MirrorPlace, Owners, RecordBits, References, Shape, Version}
+use Rattle.volume_def.specs.IndexesClause.{IsDirectoryIndex, KeyRule, MeetsIndexes, MeetsViewIndex, StandsInExtend, hash_rule, id_rule}
+use Rattle.volume_def.specs.IndexesClause.{index_nodes, is_in_extend, word_rule}
+use Rattle.volume_def.specs.Sound.{Attributes, CaseTable, Clause, ClusterBits, Extents, Holds, Indexes, IsSound, Limits, Links, Lists}
+use Rattle.volume_def.specs.Sound.{Mirror, MirrorPlace, Owners, RecordBits, References, Shape, Version}
 use Rattle.volume_def.specs.View.{VolumeView}
 use Rattle.volume_def.proofs.SoundLaws.{readable-sound}
 use Rattle.volume_edits.specs.Owners.{HasTablePart}

@@ -1,5 +1,6 @@
 -- A VOLUME ON WHICH AN ENTRY WAS REFRESHED: the two steps that it is, what stays beside the directory's index, and the items of that.
-use Rattle.std.proofs.Common.{◌≡◌, ◌≢◌, ◌<◌, ◌||◌, ℕ, Bool, true, false, List, [], ◌∷◌, length, map, filter, Some, refl, sym, ap, subst, inl, inr, ◌∙◌, arith}
+use Rattle.std.proofs.Common.{◌≡◌, ◌≢◌, ◌<◌, ◌||◌, ℕ, Bool, true, false, List, [], ◌∷◌, length, map, filter, Some, refl, sym, ap, subst}
+use Rattle.std.proofs.Common.{inl, inr, ◌∙◌, arith}
 use Rattle.std.specs.Prelude.{Contains}
 use Rattle.std.proofs.lemmas.List.{length-map}
 use Rattle.vol_bytes.specs.Field.{u32_at}

@@ -1,5 +1,7 @@
 -- THE ROOT OF A DIRECTORY'S INDEX WAS REWRITTEN at its length: an edit of one value, of which the clause on indexes alone asks more.
-use Rattle.std.proofs.Common.{◌≡◌, ◌≢◌, ◌+◌, ◌<◌, ◌≤◌, ◌==◌, ◌&&◌, ◌||◌, ◌/◌, ◌%◌, not, ℕ, Bool, true, false, cond, List, [], ◌∷◌, ◌++◌, drop, length, Option, Some, None, refl, sym, ap, subst, inl, inr, ◌∙◌, filter, map, arith, true≢false, length-append}
+use Rattle.std.proofs.Common.{◌≡◌, ◌≢◌, ◌+◌, ◌<◌, ◌≤◌, ◌==◌, ◌&&◌, ◌||◌, ◌/◌, ◌%◌, not, ℕ, Bool, true, false, cond, List, [], ◌∷◌, ◌++◌}
+use Rattle.std.proofs.Common.{drop, length, Option, Some, None, refl, sym, ap, subst, inl, inr, ◌∙◌, filter, map}
+use Rattle.std.proofs.Common.{arith, true≢false, length-append}
 use Rattle.std.specs.Prelude.{◌⊎◌, Contains, IfSome, IsTrue, is_none, option_map, unwrap_or}
 use Rattle.std.proofs.lemmas.Bool.{and_from, and_right, cases_Bool, cases_eq, eq-eqb}
 use Rattle.std.proofs.lemmas.Grind.{common_steps}
@@ -14,7 +16,8 @@ use Rattle.list_laws.proofs.MemberLaws.{Contains-from_filter, filter-map}
 use Rattle.list_laws.proofs.ReplacesLaws.{Replaces-filter}
 use Rattle.list_laws.proofs.SameItemsLaws.{SameItems-same}
 use Rattle.volume_def.specs.AttributesClause.{IsRightRecord}
-use Rattle.volume_def.specs.Files.{Clusters, Content, Part, Record, Value, content_of, content_value, file_of, is_of, part_of, parts, parts_at, records_of}
+use Rattle.volume_def.specs.Files.{Clusters, Content, Part, Record, Value, content_of, content_value, file_of, is_of, part_of}
+use Rattle.volume_def.specs.Files.{parts, parts_at, records_of}
 use Rattle.volume_def.specs.Looked.{IsLookedAt, with_clusters}
 use Rattle.volume_def.specs.Readable.{IsReadableVolume}
 use Rattle.volume_def.specs.Sound.{Clause, Holds, Indexes, rank_of}

@@ -1,5 +1,6 @@
 -- The bytes of an attribute alone are that attribute.
-use Rattle.std.proofs.Common.{◌≡◌, ℕ, ◌+◌, ◌-◌, ◌≤◌, List, length, drop, ap, refl, subst, sym, ◌∙◌, arith, length-drop, length-take, get_or-drop, get_or-take}
+use Rattle.std.proofs.Common.{◌≡◌, ℕ, ◌+◌, ◌-◌, ◌≤◌, List, length, drop, ap, refl, subst, sym, ◌∙◌, arith, length-drop}
+use Rattle.std.proofs.Common.{length-take, get_or-drop, get_or-take}
 use Rattle.std.specs.Prelude.{slice_index}
 use Rattle.std.proofs.lemmas.List.{take_all}
 use Rattle.ntfs_def.specs.Attribute.{attribute_at, attribute_len, bytes_between}

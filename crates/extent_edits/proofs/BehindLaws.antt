@@ -1,11 +1,13 @@
 -- The runs behind a cluster of a stream, run by run.
-use Rattle.std.proofs.Common.{◌≡◌, ℕ, ◌+◌, ◌-◌, ◌<◌, ◌≤◌, min, List, [], ◌∷◌, ◌++◌, length, drop, get_or, Option, Some, None, sym, ap, ◌∙◌, arith, append_assoc, length-append, length-drop}
+use Rattle.std.proofs.Common.{◌≡◌, ℕ, ◌+◌, ◌-◌, ◌<◌, ◌≤◌, min, List, [], ◌∷◌, ◌++◌, length, drop, get_or, Option, Some, None, sym, ap, ◌∙◌}
+use Rattle.std.proofs.Common.{arith, append_assoc, length-append, length-drop}
 use Rattle.std.specs.Option.{option_map}
 use Rattle.std.proofs.lemmas.List.{append-nil, drop_all, take_all}
 use Rattle.ntfs_def.specs.declared.run_text.Run.{Run}
 use Rattle.ntfs_def.specs.Runs.{EndsInReach, IsRunList, clusters_of, run_clusters, total_clusters}
 use Rattle.data_runs.specs.Left.{without_first}
-use Rattle.data_runs.proofs.PieceLaws.{IsRunList-push, clusters_of-none, clusters_of-push, drop-append, length-IsRunList, length-run_clusters, run_clusters-part, total-is}
+use Rattle.data_runs.proofs.PieceLaws.{IsRunList-push, clusters_of-none, clusters_of-push, drop-append, length-IsRunList}
+use Rattle.data_runs.proofs.PieceLaws.{length-run_clusters, run_clusters-part, total-is}
 use Rattle.data_runs.proofs.SplitLaws.{clusters_of-from}
 
 -- the clusters of a run without its first ones

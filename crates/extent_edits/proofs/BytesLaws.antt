@@ -1,5 +1,6 @@
 -- The attribute whose bytes were told anew: what its header, its name and its text say. And that which was cut.
-use Rattle.std.proofs.Common.{◌≡◌, inl, inr, ℕ, ◌+◌, ◌-◌, ◌*◌, ◌%◌, ◌<◌, ◌≤◌, ◌==◌, Bool, true, false, cond, List, Some, None, length, take, drop, refl, sym, ap, subst, ◌∙◌, arith, length-drop, length-take, get_or-drop, get_or-take}
+use Rattle.std.proofs.Common.{◌≡◌, inl, inr, ℕ, ◌+◌, ◌-◌, ◌*◌, ◌%◌, ◌<◌, ◌≤◌, ◌==◌, Bool, true, false, cond, List, Some, None, length, take}
+use Rattle.std.proofs.Common.{drop, refl, sym, ap, subst, ◌∙◌, arith, length-drop, length-take, get_or-drop, get_or-take}
 use Rattle.std.specs.Prelude.{slice_range, sum_by}
 use Rattle.std.specs.Option.{option_map}
 use Rattle.std.proofs.lemmas.Bool.{cases_lt}
@@ -8,7 +9,10 @@ use Rattle.std.proofs.lemmas.List.{take_all}
 use Rattle.list_laws.proofs.OptionLaws.{some_same}
 use Rattle.vol_bytes.specs.Field.{u16_at, u64_at}
 use Rattle.vol_bytes.proofs.FieldLaws.{u16_at-same, u32_at-same, u64_at-same}
-use Rattle.ntfs_def.specs.Attribute.{ExtentHeader, NonResident, Resident, attribute_at, attribute_flags, attribute_id, attribute_kind, attribute_len, compressed_len, content_bytes, content_end, content_offset, extent_at, extent_of, first_vcn, has_compressed_len, header_len, is_resident, name_bytes, name_end, name_offset, name_units, runs_offset, sizes_at}
+use Rattle.ntfs_def.specs.Attribute.{ExtentHeader, NonResident, Resident, attribute_at, attribute_flags, attribute_id, attribute_kind}
+use Rattle.ntfs_def.specs.Attribute.{attribute_len, compressed_len, content_bytes, content_end, content_offset, extent_at, extent_of}
+use Rattle.ntfs_def.specs.Attribute.{first_vcn, has_compressed_len, header_len, is_resident, name_bytes, name_end, name_offset}
+use Rattle.ntfs_def.specs.Attribute.{name_units, runs_offset, sizes_at}
 use Rattle.ntfs_def.specs.Runs.{MeansRuns, clusters_of, runs_in, total_clusters}
 use Rattle.ntfs_def.specs.Rounded.{clusters_for}
 use Rattle.ntfs_def.specs.Shape.{IsOneAttribute, IsWhole}

@@ -1,6 +1,7 @@
 -- The first run of a text by its bytes: a text with the same first byte and the same offset begins with the same run, or with fewer
 -- clusters of it.
-use Rattle.std.proofs.Common.{◌≡◌, ℕ, zero, suc, ◌+◌, ◌/◌, ◌%◌, ◌^◌, ◌<◌, ◌≤◌, ◌==◌, nat_lt, true, false, List, ◌++◌, length, take, drop, Option, Some, None, ℤ, pos, ◌+ℤ◌, cond, refl, sym, ap, ◌∙◌, arith, append_assoc, get_or-drop, get_or-take}
+use Rattle.std.proofs.Common.{◌≡◌, ℕ, zero, suc, ◌+◌, ◌/◌, ◌%◌, ◌^◌, ◌<◌, ◌≤◌, ◌==◌, nat_lt, true, false, List, ◌++◌, length, take, drop}
+use Rattle.std.proofs.Common.{Option, Some, None, ℤ, pos, ◌+ℤ◌, cond, refl, sym, ap, ◌∙◌, arith, append_assoc, get_or-drop, get_or-take}
 use Rattle.std.specs.Prelude.{slice_index}
 use Rattle.std.specs.Option.{option_map}
 use Rattle.std.proofs.lemmas.Bool.{and_right, le-leb, leb-true, lt-ltb}
@@ -11,7 +12,8 @@ use Rattle.std.proofs.lemmas.Grind.{common_steps}
 use Rattle.byteorder.specs.Endian.{little_bytes, little_from, little_number, twos_complement}
 use Rattle.byteorder.specs.Numbers.{little_from-lt, little_number-reads_back}
 use Rattle.ntfs_def.specs.declared.run_text.Run.{Run}
-use Rattle.ntfs_def.specs.Runs.{BeginsWith, is_bounded, is_not_below_zero, length_width, offset_width, rule_broken, run_length, run_place, run_width}
+use Rattle.ntfs_def.specs.Runs.{BeginsWith, is_bounded, is_not_below_zero, length_width, offset_width, rule_broken}
+use Rattle.ntfs_def.specs.Runs.{run_length, run_place, run_width}
 use Rattle.ntfs_def.proofs.RunLaws.{rule_broken-none}
 
 -- a number of some bytes reads these alone

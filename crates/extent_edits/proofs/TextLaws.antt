@@ -1,5 +1,6 @@
 -- A run text that is cut, run by run: its first runs, and the bytes at which the clusters end.
-use Rattle.std.proofs.Common.{◌≡◌, ℕ, ◌+◌, ◌/◌, ◌%◌, ◌<◌, ◌≤◌, true, List, [], ◌∷◌, ◌++◌, length, take, drop, get_or, refl, sym, ap, subst, ◌∙◌, arith, append_assoc, get_or-drop, length-drop}
+use Rattle.std.proofs.Common.{◌≡◌, ℕ, ◌+◌, ◌/◌, ◌%◌, ◌<◌, ◌≤◌, true, List, [], ◌∷◌, ◌++◌, length, take, drop, get_or, refl, sym, ap, subst}
+use Rattle.std.proofs.Common.{◌∙◌, arith, append_assoc, get_or-drop, length-drop}
 use Rattle.std.specs.Prelude.{slice_index}
 use Rattle.std.proofs.lemmas.Grind.{common_steps}
 use Rattle.std.proofs.lemmas.List.{append-nil, drop-drop, drop_more, take_more}
@@ -7,7 +8,8 @@ use Rattle.std.proofs.lemmas.List.Sums.{sum_by_push}
 use Rattle.byteorder.specs.Endian.{little_number}
 use Rattle.vol_bytes.specs.Field.{SameOutside}
 use Rattle.ntfs_def.specs.declared.run_text.Run.{Run}
-use Rattle.ntfs_def.specs.Runs.{BeginsWith, MeansFrom, MeansRuns, clusters_of, is_ended, length_width, place_after, run_length, run_width, total_clusters}
+use Rattle.ntfs_def.specs.Runs.{BeginsWith, MeansFrom, MeansRuns, clusters_of, is_ended, length_width, place_after}
+use Rattle.ntfs_def.specs.Runs.{run_length, run_width, total_clusters}
 use Rattle.ntfs_def.proofs.RunLaws.{rule_broken-none}
 use Rattle.data_runs.proofs.SplitLaws.{cut-whole, cut-within}
 use Rattle.extent_edits.specs.Texts.{ClearsFrom, CutsText, SpellsFirst, last_of}

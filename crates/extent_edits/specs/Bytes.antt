@@ -1,7 +1,8 @@
 -- THE BYTES OF AN ATTRIBUTE THAT IS CUT, or goes on, an extent of a stream; the attribute stands at their front.
 use Rattle.std.specs.Prelude.{◌≡◌, ◌+◌, ◌*◌, ◌%◌, ◌^◌, ◌<◌, ◌≤◌, ℕ, IsTrue, List, Option, None, drop, length, slice_index, sum_by}
 use Rattle.vol_bytes.specs.Field.{u64_at}
-use Rattle.ntfs_def.specs.Attribute.{Attribute, allocated_len, attribute_at, attribute_id, attribute_len, has_compressed_len, initialized_len, last_vcn, real_len, runs_offset}
+use Rattle.ntfs_def.specs.Attribute.{Attribute, allocated_len, attribute_at, attribute_id, attribute_len, has_compressed_len}
+use Rattle.ntfs_def.specs.Attribute.{initialized_len, last_vcn, real_len, runs_offset}
 use Rattle.ntfs_def.specs.Runs.{MeansRuns}
 use Rattle.ntfs_def.specs.Shape.{IsOneAttribute}
 use Rattle.ntfs_def.specs.declared.run_text.Run.{Run}

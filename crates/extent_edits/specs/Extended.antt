@@ -1,6 +1,7 @@
 -- AN EXTENT THAT GOES ON: a stream in clusters, which one attribute holds from its cluster 0 on, has one run more, and other sizes.
 -- Layout: Linux-NTFS documentation, "Attribute Headers" and concept "Data Runs"; Carrier, File System Forensic Analysis, chapters 11, 13.
-use Rattle.std.specs.Prelude.{◌≡◌, ◌≢◌, ◌+◌, ◌*◌, ◌^◌, ◌<◌, ◌≤◌, ◌++◌, ℕ, Bool, true, false, IsSomeAnd, List, Option, Some, None, slice_get, sum_by}
+use Rattle.std.specs.Prelude.{◌≡◌, ◌≢◌, ◌+◌, ◌*◌, ◌^◌, ◌<◌, ◌≤◌, ◌++◌, ℕ, Bool, true, false, IsSomeAnd, List, Option, Some}
+use Rattle.std.specs.Prelude.{None, slice_get, sum_by}
 use Rattle.std.specs.Option.{option_map, option_to_list}
 use Rattle.ntfs_def.specs.Attribute.{Attribute, ExtentHeader, attributes}
 use Rattle.ntfs_def.specs.Fixup.{opened_of}

@@ -1,5 +1,6 @@
 //! An extent of a stream that goes on in its record.
-ghost use Rattle.std.specs.Prelude.{◌≡◌, ◌≢◌, ◌+◌, ◌-◌, ◌*◌, ◌<◌, ◌≤◌, IfErr, IfNone, IfOk, IfSome, IsTrue, None, OnErr, OnOk, false, length};
+ghost use Rattle.std.specs.Prelude.{◌≡◌, ◌≢◌, ◌+◌, ◌-◌, ◌*◌, ◌<◌, ◌≤◌, IfErr, IfNone, IfOk, IfSome, IsTrue, None, OnErr};
+ghost use Rattle.std.specs.Prelude.{OnOk, false, length};
 ghost use Rattle.ntfs_def.specs.Attribute.{attribute_len, attribute_place, attributes};
 ghost use Rattle.ntfs_def.specs.Record.{used_size};
 ghost use Rattle.attr_view.specs.Values.{attribute_in};

@@ -1,5 +1,6 @@
 //! The bytes of an attribute that goes on, an extent of a stream.
-ghost use Rattle.std.specs.Prelude.{◌≡◌, ◌*◌, ◌+◌, ◌++◌, ◌<◌, ◌≤◌, ◌^◌, IfNone, IfOk, IfSome, List, Option, ℕ, drop, false, length, max, take};
+ghost use Rattle.std.specs.Prelude.{◌≡◌, ◌*◌, ◌+◌, ◌++◌, ◌<◌, ◌≤◌, ◌^◌, IfNone, IfOk, IfSome, List, Option, ℕ, drop, false};
+ghost use Rattle.std.specs.Prelude.{length, max, take};
 ghost use Rattle.std.specs.Option.{option_to_list};
 ghost use Rattle.ntfs_def.specs.Attribute.{is_resident, runs_offset};
 ghost use Rattle.ntfs_def.specs.Rounded.{up_to_8};

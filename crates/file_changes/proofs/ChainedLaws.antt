@@ -71,14 +71,17 @@ module _ {D : Type 0} (g : Ghosts D) (told : DuplicatedInformation) (links : Lis
     module _ (new : Mft D g) (staged : IsTrue (view g now).told → StagesFew g 12 (IsOfDirectory (view g now) link.parent) now new) where
       pub staged-step : IsTrue (view g old).told → StagesFew g (12 * (at + 1)) (IsOfLinks (view g old) links) old new
       staged-step t =
-          few-then g (12 * at) 12 (12 * (at + 1)) (IsOfLinks (view g old) links) (IsOfLinks (view g old) links) (IsOfDirectory (view g now) link.parent)
+          few-then g (12 * at) 12 (12 * (at + 1)) (IsOfLinks (view g old) links) (IsOfLinks (view g old) links)
+          (IsOfDirectory (view g now) link.parent)
           old now new (r.staged t) (staged (told-now t)) (omega arith) (λ s h. h) (λ s of. (link, among, r.back t link.parent s of))
 
       pub goes-step : KeepsDisk g now new → faults_of g new ≡ faults_of g now
-          → (IsTrue (view g now).told → RefreshesEntry (view g now) (view g new) link.parent link.name told) → Goes g told links (at + 1) old new
+          → (IsTrue (view g now).told → RefreshesEntry (view g now) (view g new) link.parent link.name told)
+          → Goes g told links (at + 1) old new
       goes-step disk faults did =
           let next : suc at ≡ at + 1 = omega arith in
-          let entry : (t : IsTrue (view g old).told) → RefreshesEntry (view g now) (view g new) link.parent link.name told = λ t. did (told-now t) in
+          let entry : (t : IsTrue (view g old).told) → RefreshesEntry (view g now) (view g new) link.parent link.name told =
+          λ t. did (told-now t) in
           let can : IsTrue (view g old).told → CanTellAll (view g new) (mounted_of g new).upcase rest = λ t.
           subst (λ (m : Mounted). CanTellAll (view g new) m.upcase rest) (sym disk.mounted)
           (can-rest told (view g now) (view g new) (mounted_of g now).upcase link rest (all t) (entry t)) in
@@ -89,11 +92,13 @@ module _ {D : Type 0} (g : Ghosts D) (told : DuplicatedInformation) (links : Lis
             goes = λ t last chain. r.goes t last (subst (RefreshesLinks told (view g now) last) (sym first)
                 (view g new, entry t, subst (λ k. RefreshesLinks told (view g new) last (drop k links)) (sym next) chain));
             back = λ t dir sector of. r.back t dir sector (directory-back (is_told_key (link.parent ∷ [])) (view g now) (view g new)
-                (step-rewrites (view g now) (view g new) link.parent link.name told (entry t)) (readable-sound (view g now) (all t).can.sound) dir sector of);
+                (step-rewrites (view g now) (view g new) link.parent link.name told (entry t))
+                (readable-sound (view g now) (all t).can.sound) dir sector of);
             staged = staged-step;
           }
 
   -- behind the last
   pub goes-all : (at : ℕ) (old now : Mft D g) → length links ≤ at → Goes g told links at old now → IsTrue (view g old).told
       → RefreshesLinks told (view g old) (view g now) links
-  goes-all at old now past r t = r.goes t (view g now) (subst (RefreshesLinks told (view g now) (view g now)) (sym (drop_of_length-le links past)) refl)
+  goes-all at old now past r t =
+      r.goes t (view g now) (subst (RefreshesLinks told (view g now) (view g now)) (sym (drop_of_length-le links past)) refl)

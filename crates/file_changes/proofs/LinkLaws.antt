@@ -28,7 +28,8 @@ within : (view : VolumeView) (dir : ℕ) → IsDirectory view dir → dir < view
 within view dir is = by (nat_lt dir view.layout.count) refl is
   where
     by : (b : Bool) → nat_lt dir view.layout.count ≡ b
-        → IsSomeAnd (cond b (record_in dir (view.block dir)) None) (λ r. IsTrue (is_base r) × IsTrue (is_directory r)) → dir < view.layout.count
+        → IsSomeAnd (cond b (record_in dir (view.block dir)) None) (λ r. IsTrue (is_base r) × IsTrue (is_directory r))
+        → dir < view.layout.count
     by true e is = ltb-true dir view.layout.count e
     by false e is = absurd is
 
@@ -36,7 +37,8 @@ within view dir is = by (nat_lt dir view.layout.count) refl is
 file-within : (view : VolumeView) (f : ℕ) → IsFile view f → (r : Record) × (record_on view f ≡ Some r) × IsTrue (is_base r)
 file-within view f is = by (record_on view f) refl is
   where
-    by : (o : Option Record) → record_on view f ≡ o → IsSomeAnd o (λ r. IsTrue (is_base r)) → (r : Record) × (record_on view f ≡ Some r) × IsTrue (is_base r)
+    by : (o : Option Record) → record_on view f ≡ o → IsSomeAnd o (λ r. IsTrue (is_base r))
+        → (r : Record) × (record_on view f ≡ Some r) × IsTrue (is_base r)
     by None e is = absurd is
     by (Some r) e is = (r, e, is)
 
@@ -44,7 +46,8 @@ has-units : List ℕ → Link → Bool
 has-units units link = bytes_eq link.name.units units
 
 -- A name of a file stands in its directory, with its units.
-pub named-there : (view : VolumeView) (f : ℕ) (name : FileName) → IsSound view → IsFile view f → Contains (names_of (records_of view) f) name
+pub named-there : (view : VolumeView) (f : ℕ) (name : FileName) → IsSound view → IsFile view f
+    → Contains (names_of (records_of view) f) name
     → HasUnits view name.parent.number name.units
 unfolding has-units
 named-there view f name sound file c =
@@ -52,12 +55,14 @@ named-there view f name sound file c =
     let dir = name.parent.number in
     let has = index-of view dir sound (parent-directory view f name sound c) in
     let link : Link = record { file = record { number = f; sequence = r.0.header.sequence }; name = name } in
-    let among = Contains-filter (is_in_directory dir) (links (records_of view)) link (named-link view f r.0 r.1 r.2 name c) (eq-eqb dir dir refl) in
+    let among = Contains-filter (is_in_directory dir) (links (records_of view)) link
+    (named-link view f r.0 r.1 r.2 name c) (eq-eqb dir dir refl) in
     let passes : has-units name.units link ≡ true = (bytes_eq-Decides name.units name.units).1 refl in
     let met = SameItems-passing (has-units name.units) _ _ link (SameItems-sym _ _ has.names) among passes in
     let x = Contains-from_map link_of has.items met.0 met.1 in (
       link_of_item x.0,
-      subst (λ (all : List tree.Link). Contains all (link_of_item x.0)) (sym (links_are_items view dir has)) (Contains-map link_of_item has.items x.0 x.1),
+      subst (λ (all : List tree.Link). Contains all (link_of_item x.0)) (sym (links_are_items view dir has))
+          (Contains-map link_of_item has.items x.0 x.1),
       ap (λ (l : Link). l.name.units) x.2 ∙ (bytes_eq-Decides met.0.name.units name.units).0 met.2,
     )
 

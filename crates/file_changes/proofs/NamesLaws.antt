@@ -17,7 +17,8 @@ use Rattle.file_changes.specs.Links.{CanTellAll, CanTellFile, RefreshesLinks, Te
 use Rattle.file_changes.proofs.StepLaws.{names-told, told-of}
 
 -- The file was loaded, and these are its links.
-module _ (view : VolumeView) (table : List ℕ) (f : ℕ) (file : FileParts) (links : List Link) (can : CanTellFile view table f) (number : file_number file ≡ f)
+module _ (view : VolumeView) (table : List ℕ) (f : ℕ) (file : FileParts) (links : List Link) (can : CanTellFile view table f)
+    (number : file_number file ≡ f)
     (parts_are : IsReadableVolume view → IsFile view f → AreParts view file) (is : links ≡ links_held file) where
   are : AreParts view file
   are = parts_are (readable-sound view can.sound) can.file

@@ -54,7 +54,8 @@ module _ {D : Type 0} (g : Ghosts D) (f : ℕ) (a b : Mft D g) (k : ℕ) (file :
       (subst (λ (v : VolumeView). CanTellAll v (mounted_of g a).upcase links) (sym same) x)
 
   pub tells-then : (told : DuplicatedInformation) (c : Mft D g) → IsToldBy (parts_held file) told
-      → (IsTrue (view g b).told → RefreshesLinks told (view g b) (view g c) links) → IsTrue (view g a).told → TellsNames (view g a) (view g c) f
+      → (IsTrue (view g b).told → RefreshesLinks told (view g b) (view g c) links) → IsTrue (view g a).told
+      → TellsNames (view g a) (view g c) f
   tells-then told c by chain t =
       tells (view g a) (mounted_of g a).upcase f file links (can t) number (parts_are t) is told (view g c) by
       (subst (λ (v : VolumeView). IsTrue v.told → RefreshesLinks told v (view g c) links) same chain t)
@@ -69,7 +70,8 @@ module _ {D : Type 0} (g : Ghosts D) (f : ℕ) (a b : Mft D g) (k : ℕ) (file :
       subst (λ (ls : List Link). StagesFew g (12 * length ls) (IsOfLinks (view g a) ls) b c)
       (links-are (view g a) (mounted_of g a).upcase f file links (can t) number (parts_are t) is) few in
       few-then g 0 (12 * length (map (link_for f) names)) (12 * length names) (IsOfNames (view g a) names) (IsOfNames (view g a) names)
-      (IsOfLinks (view g a) (map (link_for f) names)) a b c (few-none g 0 (IsOfNames (view g a) names) a b reads.stage.only_reads.places) mapped
+      (IsOfLinks (view g a) (map (link_for f) names)) a b c
+      (few-none g 0 (IsOfNames (view g a) names) a b reads.stage.only_reads.places) mapped
       (omega (arith, length-map names (link_for f))) (λ s h. h) (names-of-links (view g a) f names)
 
 -- THE STANDARD INFORMATION WAS SET, and then the names are told anew.
@@ -86,7 +88,8 @@ module _ {D : Type 0} (g : Ghosts D) (f : ℕ) (times : List ℕ) (flags : ℕ) 
   sets : IsTrue (view g a).told → SetsStandard (view g a) (view g m) f times flags
   sets t =
       let c = can t in
-      set t (readable-sound (view g a) c.can.sound) (node-file (view g a) f c.node c.can.there) c.write.apart (initialized (view g a) f c.write)
+      set t (readable-sound (view g a) c.can.sound) (node-file (view g a) f c.node c.can.there) c.write.apart
+      (initialized (view g a) f c.write)
 
   pub can-names : IsTrue (view g m).told → CanTellFile (view g m) (mounted_of g m).upcase f
   can-names t =
@@ -106,15 +109,18 @@ module _ {D : Type 0} (g : Ghosts D) (f : ℕ) (times : List ℕ) (flags : ℕ) 
       (stored-set (view g a) (view g b) f times flags (sets-then b did before) (can before).can.apart (mounted_of g a).clusters
       (mounted_of g a).records (mounted_of g a).upcase (volume before).stored)
 
-  pub staged-then : (b : Mft D g) → StagesRecordOf g f a m → (IsTrue (view g m).told → StagesNames g (names_of (records_of (view g m)) f) m b)
+  pub staged-then : (b : Mft D g) → StagesRecordOf g f a m
+      → (IsTrue (view g m).told → StagesNames g (names_of (records_of (view g m)) f) m b)
       → IsTrue (view g a).told → StagesAttributes g f (names_of (records_of (view g a)) f) a b
   staged-then b first then t =
       let old = view g a in
       let mid = view g m in
       let names = names_of (records_of old) f in
-      let later : StagesNames g names m b = subst (λ (ns : List FileName). StagesNames g ns m b) (names-first old mid f times flags (sets t)) (then (told-m t)) in
+      let later : StagesNames g names m b =
+      subst (λ (ns : List FileName). StagesNames g ns m b) (names-first old mid f times flags (sets t)) (then (told-m t)) in
       let w = set-rewrites old mid f times flags (sets t) in
-      few-then g 4 (12 * length names) (4 + 12 * length names) (λ sector. IsOfFile old f sector ⊎ IsOfNames old names sector) (IsOfFile old f)
+      few-then g 4 (12 * length names) (4 + 12 * length names)
+      (λ sector. IsOfFile old f sector ⊎ IsOfNames old names sector) (IsOfFile old f)
       (IsOfNames mid names) a m b (few-standard g f a m first t) later (omega arith) (λ s of. inl of)
       (λ s (name, among, of). inr (
         name,

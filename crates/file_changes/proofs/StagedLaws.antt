@@ -1,5 +1,6 @@
 -- WHAT IS STAGED: how many sectors, and of what.
-use Rattle.std.proofs.Common.{◌≡◌, ◌+◌, ◌*◌, ◌/◌, ◌<◌, ◌≤◌, ◌++◌, ℕ, Bool, true, false, List, [], ◌∷◌, length, map, Option, Some, None, refl, sym, ap, subst, inl, inr, arith, length-append}
+use Rattle.std.proofs.Common.{◌≡◌, ◌+◌, ◌*◌, ◌/◌, ◌<◌, ◌≤◌, ◌++◌, ℕ, Bool, true, false, List, [], ◌∷◌, length, map, Option, Some, None}
+use Rattle.std.proofs.Common.{refl, sym, ap, subst, inl, inr, arith, length-append}
 use Rattle.std.proofs.Math.Path.{fun_ext}
 use Rattle.std.specs.Prelude.{Contains, IsSomeAnd, IsTrue, cond, nat_lt, option_to_list}
 use Rattle.std.specs.List.{flat_map, range_with_len}
@@ -42,7 +43,8 @@ use Rattle.file_changes.specs.Staged.{IsOfDirectory, IsOfFile, IsOfIndex, IsOfLi
 
 -- VALUES WERE REWRITTEN: records of a file were so before, and its indexes lie as before.
 module _ (changed : Key → Bool) (old new : VolumeView) (w : Rewrites changed old new) (readable : IsReadableVolume old) where
-  belongs-back : (n f : ℕ) (a b : Option Record) → option_map blank_record b ≡ option_map blank_record a → IsSomeAnd b (λ r. file_of n r ≡ f)
+  belongs-back : (n f : ℕ) (a b : Option Record) → option_map blank_record b ≡ option_map blank_record a
+      → IsSomeAnd b (λ r. file_of n r ≡ f)
       → IsSomeAnd a (λ r. file_of n r ≡ f)
   belongs-back n f None None e is = is
   belongs-back n f None (Some s) e is = cc
@@ -56,9 +58,11 @@ module _ (changed : Key → Bool) (old new : VolumeView) (w : Rewrites changed o
       inner : (b : Bool) → is_in_use (old.block n) ≡ b → n < old.layout.count → IsSomeAnd (record_in n (old.block n)) (λ r. file_of n r ≡ f)
           → IsWellFormed (old.block n)
       inner true used l is = readable.shape n l used
-      inner false used l is = absurd (subst (λ b. IsSomeAnd (cond b (Some (record_of n (opened_of (old.block n)))) None) (λ r. file_of n r ≡ f)) used is)
+      inner false used l is =
+          absurd (subst (λ b. IsSomeAnd (cond b (Some (record_of n (opened_of (old.block n)))) None) (λ r. file_of n r ≡ f)) used is)
 
-      by : (b : Bool) → nat_lt n old.layout.count ≡ b → IsSomeAnd (cond b (record_in n (old.block n)) None) (λ r. file_of n r ≡ f) → IsWellFormed (old.block n)
+      by : (b : Bool) → nat_lt n old.layout.count ≡ b → IsSomeAnd (cond b (record_in n (old.block n)) None) (λ r. file_of n r ≡ f)
+          → IsWellFormed (old.block n)
       by true e is = inner (is_in_use (old.block n)) refl (ltb-true n old.layout.count e) is
       by false e is = absurd is
 
@@ -68,7 +72,8 @@ module _ (changed : Key → Bool) (old new : VolumeView) (w : Rewrites changed o
       record { belongs = b; well_formed = formed n f b }
 
   pub file-back : (f sector : ℕ) → IsOfFile new f sector → IsOfFile old f sector
-  file-back f sector (n, is, among) = (n, record-back f n is, subst (λ (l : TableLayout). Contains (record_places l n) sector) w.layout among)
+  file-back f sector (n, is, among) =
+      (n, record-back f n is, subst (λ (l : TableLayout). Contains (record_places l n) sector) w.layout among)
 
   index-back : (dir sector : ℕ) → IsOfIndex new dir sector → IsOfIndex old dir sector
   index-back dir sector (vcn, among) =
@@ -101,11 +106,13 @@ module _ {D : Type 0} (g : Ghosts D) where
     ];
   }
 
-  pub few-more : (m k : ℕ) (is was : ℕ → Type 0) (a b : Mft D g) → StagesFew g m was a b → m ≤ k → ((s : ℕ) → was s → is s) → StagesFew g k is a b
+  pub few-more : (m k : ℕ) (is was : ℕ → Type 0) (a b : Mft D g) → StagesFew g m was a b → m ≤ k
+      → ((s : ℕ) → was s → is s) → StagesFew g k is a b
   few-more m k is was a b x fits all = few-then m 0 k is was is a b b x (few-none 0 is b b refl) (omega (arith, fits)) all (λ s h. h)
 
   -- the entry of a name
-  pub few-entry : (dir : ℕ) (a b : Mft D g) → StagesEntry g dir a b → IsTrue (view g a).told → StagesFew g 12 (IsOfDirectory (view g a) dir) a b
+  pub few-entry : (dir : ℕ) (a b : Mft D g) → StagesEntry g dir a b → IsTrue (view g a).told
+      → StagesFew g 12 (IsOfDirectory (view g a) dir) a b
   few-entry dir a b e told =
       let v = view g a in
       let spot = spot_at (names_index v dir).records in
@@ -114,7 +121,15 @@ module _ {D : Type 0} (g : Ghosts D) where
       let x = each-few (record_sectors v.layout spot) 8 e.vcns (few-index v.layout spot) in
       let y = each-few (record_places v.layout) 4 e.holders (few-record v.layout) in
       record {
-        few = omega (arith, few-staged g (own ++ of_file) (stage_of g a) (stage_of g b) (e.places told), length-append own of_file, x, y, e.few, e.one);
+        few = omega (
+          arith,
+          few-staged g (own ++ of_file) (stage_of g a) (stage_of g b) (e.places told),
+          length-append own of_file,
+          x,
+          y,
+          e.few,
+          e.one,
+        );
         only = λ s there. elim ((e.places told).only s there) [
           | inl before ↦ inl before
           | inr new ↦ elim (Contains-append_cases own of_file s new) [
@@ -143,7 +158,8 @@ module _ {D : Type 0} (g : Ghosts D) where
       }
 
 -- links of names
-pub names-of-links : (view : VolumeView) (f : ℕ) (names : List FileName) (sector : ℕ) → IsOfLinks view (map (link_for f) names) sector → IsOfNames view names sector
+pub names-of-links : (view : VolumeView) (f : ℕ) (names : List FileName) (sector : ℕ) → IsOfLinks view (map (link_for f) names) sector
+    → IsOfNames view names sector
 names-of-links view f names sector (link, among, of) =
     let at = Contains-from_map (link_for f) names link among in
     (at.0, at.1, subst (λ (l : Link). IsOfDirectory view l.parent sector) (sym at.2) of)

@@ -71,7 +71,8 @@ names-then told table f name names old new r s can =
     }
 
 -- the same of links
-pub can-first : (view : VolumeView) (table : List ℕ) (link : Link) (links : List Link) → CanTellAll view table (link ∷ links) → CanTell view table link
+pub can-first : (view : VolumeView) (table : List ℕ) (link : Link) (links : List Link) → CanTellAll view table (link ∷ links)
+    → CanTell view table link
 can-first view table link links all = by all.names all.are all.own all.can
   where
     by : (names : List FileName) → map (link_for all.f) names ≡ link ∷ links
@@ -111,7 +112,8 @@ names-told told f [] old new r = r
 names-told told f (name ∷ names) old new r = (r.0, r.1, names-told told f names r.0 new r.2)
 
 -- what the file shows
-pub told-of : (view : VolumeView) (f : ℕ) (held : List Part) (told : DuplicatedInformation) → held ≡ parts (records_of view) f → IsToldBy held told
+pub told-of : (view : VolumeView) (f : ℕ) (held : List Part) (told : DuplicatedInformation)
+    → held ≡ parts (records_of view) f → IsToldBy held told
     → IsToldOf view f told
 told-of view f held told same is =
     let by : IsToldBy (parts (records_of view) f) told = subst (λ ps. IsToldBy ps told) same is in
@@ -121,7 +123,8 @@ told-of view f held told same is =
 pub file-then : (old mid : VolumeView) (table : List ℕ) (f : ℕ) (times : List ℕ) (flags : ℕ) → SetsStandard old mid f times flags
     → table ≡ value_on old (case_parts old) → CanWriteFile old f → CanTellFile mid table f
 file-then old mid table f times flags sets case can =
-    let s = stands-first old mid f times flags sets can.can.sound can.can.apart can.can.other can.can.elsewhere (node-file old f can.node can.can.there) in
+    let s = stands-first old mid f times flags sets can.can.sound can.can.apart can.can.other can.can.elsewhere
+    (node-file old f can.node can.can.there) in
     let w = set-rewrites old mid f times flags sets in
     record {
       sound = s.sound;

@@ -48,7 +48,8 @@ plain-bytes (Plain bytes) e = (bytes, refl)
 plain-bytes (Packed size) e = cc
 
 -- THE STREAM THAT WAS FOUND, in a file whose names have two bytes a unit.
-module _ (v : VolumeView) (table : List ℕ) (file : FileParts) (found : FoundStream) (f at len : ℕ) (can : CanWriteOver v table file found f at len)
+module _ (v : VolumeView) (table : List ℕ) (file : FileParts) (found : FoundStream) (f at len : ℕ)
+    (can : CanWriteOver v table file found f at len)
     (names : (part : Part) → Contains (parts_held file) part → (length part.name % 2 ≡ 0) × ((k : ℕ) → slice_index part.name k < 256)) where
   abbrev node : Node
   node = can.can.node
@@ -65,7 +66,8 @@ module _ (v : VolumeView) (table : List ℕ) (file : FileParts) (found : FoundSt
   pub finds : FindsPlain v f node can.asked can.is.part.name old_bytes
   finds = record {
     stream = can.is.stream;
-    sought = ap (λ ss. sought_stream (volume_fold v) ss can.asked) (node-streams v f node can.can.can.there ∙ ap (streams_of v) (sym same-parts))
+    sought = ap (λ ss. sought_stream (volume_fold v) ss can.asked)
+        (node-streams v f node can.can.can.there ∙ ap (streams_of v) (sym same-parts))
         ∙ can.is.sought;
     spelt = ap (λ (s : Stream). s.name) can.is.is;
     content = content.1;
@@ -79,7 +81,8 @@ module _ (v : VolumeView) (table : List ℕ) (file : FileParts) (found : FoundSt
   writable = over-in-place v f node can.asked can.is.part.name old_bytes at len can.can.write.apart can.can.can finds can.over
 
 -- THE CALLS, one behind the other.
-module _ {D : Type 0} (g : Ghosts D) (file : FileParts) (found : FoundStream) (f at : ℕ) (bytes : List ℕ) (a m : Mft D g) (volume : IsInUse g a)
+module _ {D : Type 0} (g : Ghosts D) (file : FileParts) (found : FoundStream) (f at : ℕ) (bytes : List ℕ)
+    (a m : Mft D g) (volume : IsInUse g a)
     (names : (part : Part) → Contains (parts_held file) part → (length part.name % 2 ≡ 0) × ((k : ℕ) → slice_index part.name k < 256))
     (disk : KeepsDisk g a m) where
   abbrev CanOver : Type 0
@@ -94,7 +97,8 @@ module _ {D : Type 0} (g : Ghosts D) (file : FileParts) (found : FoundStream) (f
   -- what was staged until here
   module _ (few : length (places g (stage_of g m)) ≤ length (places g (stage_of g a)) + (length bytes / 512 + 2))
       (only : IsTrue (view g a).told → (table name : List ℕ) → IsHeldWith (view g a) table file → (is : IsStream (view g a) file name found)
-      → StagesOnly g (touched_sectors (view g a).layout (spot_at (parts_at (view g a) (file_number file) DATA is.part.name)) at (length bytes))
+      → StagesOnly g (touched_sectors (view g a).layout
+      (spot_at (parts_at (view g a) (file_number file) DATA is.part.name)) at (length bytes))
       (stage_of g a) (stage_of g m)) where
     stream-staged : IsTrue (view g a).told → (can : CanOver)
         → StagesFew g (length bytes / 512 + 2) (IsOfStream (view g a) f can.is.part.name at (length bytes)) a m
@@ -124,7 +128,8 @@ module _ {D : Type 0} (g : Ghosts D) (file : FileParts) (found : FoundStream) (f
         (written t (mounted_of g a).upcase can.asked can.held can.is
         (subst (λ n. IsWritable (view g a) (parts_at (view g a) n DATA can.is.part.name) at (length bytes)) (sym can.number) may))
 
-    after : IsTrue (view g a).told → (can : CanOver) → IsOverwritten (view g a) (view g m) f can.can.node can.asked can.is.part.name at bytes
+    after : IsTrue (view g a).told → (can : CanOver)
+        → IsOverwritten (view g a) (view g m) f can.can.node can.asked can.is.part.name at bytes
         (old_bytes (view g a) (mounted_of g a).upcase file found f at (length bytes) can names)
     after t can =
         overwritten (view g a) (view g m) f can.can.node can.asked can.is.part.name at bytes
@@ -154,13 +159,16 @@ module _ {D : Type 0} (g : Ghosts D) (file : FileParts) (found : FoundStream) (f
           write = write-still (same_key (key_of f DATA may.is.part.name)) (view g a) (view g m) done.rewrites may.can.write;
         }
 
-    pub over-then : (times : List ℕ) (flags : ℕ) (b : Mft D g) → (IsTrue (view g m).told → SetsAttributes (view g m) (view g b) f times flags)
+    pub over-then : (times : List ℕ) (flags : ℕ) (b : Mft D g)
+        → (IsTrue (view g m).told → SetsAttributes (view g m) (view g b) f times flags)
         → IsTrue (view g a).told → (can : CanOver) → WritesOver (view g a) (view g b) f can.is.part.name at bytes times flags
     over-then times flags b sets t can = record { mid = view g m; over = over t can; sets = sets (told-m t) }
 
     module _ (few : length (places g (stage_of g m)) ≤ length (places g (stage_of g a)) + (length bytes / 512 + 2))
-        (only : IsTrue (view g a).told → (table name : List ℕ) → IsHeldWith (view g a) table file → (is : IsStream (view g a) file name found)
-        → StagesOnly g (touched_sectors (view g a).layout (spot_at (parts_at (view g a) (file_number file) DATA is.part.name)) at (length bytes))
+        (only : IsTrue (view g a).told → (table name : List ℕ) → IsHeldWith (view g a) table file
+        → (is : IsStream (view g a) file name found)
+        → StagesOnly g (touched_sectors (view g a).layout
+        (spot_at (parts_at (view g a) (file_number file) DATA is.part.name)) at (length bytes))
         (stage_of g a) (stage_of g m)) where
       pub staged-then : (b : Mft D g) → (IsTrue (view g m).told → StagesAttributes g f (names_of (records_of (view g m)) f) m b)
           → IsTrue (view g a).told → (can : CanOver)
@@ -173,7 +181,8 @@ module _ {D : Type 0} (g : Ghosts D) (file : FileParts) (found : FoundStream) (f
           let done = after t can in
           let readable = readable-sound old can.can.can.sound in
           let same = records-same old mid f name at bytes (over t can).writes in
-          let next : StagesAttributes g f all m b = subst (λ (r : Records). StagesAttributes g f (names_of r f) m b) same (later (told-m t)) in
+          let next : StagesAttributes g f all m b =
+          subst (λ (r : Records). StagesAttributes g f (names_of r f) m b) same (later (told-m t)) in
           few-then g (length bytes / 512 + 2) (4 + 12 * length all) (6 + 12 * length all + length bytes / 512)
           (IsOverOf old f name at (length bytes) all) (IsOfStream old f name at (length bytes))
           (λ s. IsOfFile mid f s ⊎ IsOfNames mid all s) a m b (stream-staged few only t can) next (omega arith) (λ s of. inl of)

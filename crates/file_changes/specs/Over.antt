@@ -18,8 +18,8 @@ use Rattle.sparse_io.specs.Overwritten.{touched_sectors}
 use Rattle.file_changes.specs.Links.{CanWriteFile}
 use Rattle.file_changes.specs.Staged.{IsOfFile, IsOfNames, StagesFew}
 
--- SO MANY BYTES CAN GO OVER those of the stream that was found, from byte `at` on: file f can be edited, and is held as the volume has it; the
--- stream is not packed, and the bytes go over bytes in clusters that were written before.
+-- SO MANY BYTES CAN GO OVER those of the stream that was found, from byte `at` on: file f can be edited, and is held as the volume has it;
+-- the stream is not packed, and the bytes go over bytes in clusters that were written before.
 pub record CanWriteOver (view : VolumeView) (table : List ℕ) (file : FileParts) (found : FoundStream) (f at len : ℕ) : Type 0 where
   pub can : CanWriteFile view f
   pub number : file_number file ≡ f

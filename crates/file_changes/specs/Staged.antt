@@ -47,7 +47,8 @@ abbrev pub StagesNames : {D : Type 0} (g : Ghosts D) → List FileName → Mft D
 StagesNames g names old new = StagesFew g (12 * length names) (IsOfNames (view g old) names) old new
 
 abbrev pub StagesAttributes : {D : Type 0} (g : Ghosts D) → ℕ → List FileName → Mft D g → Mft D g → Type 0
-StagesAttributes g f names old new = StagesFew g (4 + 12 * length names) (λ sector. IsOfFile (view g old) f sector ⊎ IsOfNames (view g old) names sector) old new
+StagesAttributes g f names old new =
+    StagesFew g (4 + 12 * length names) (λ sector. IsOfFile (view g old) f sector ⊎ IsOfNames (view g old) names sector) old new
 
 -- BYTES OVER THOSE OF A STREAM, and the attributes of its file: a sector for each 512 bytes, and two, of the stream, too.
 abbrev pub IsOfStreams : VolumeView → ℕ → ℕ → Type 0

@@ -1,4 +1,5 @@
-//! What is staged of one file that takes no room: its times and DOS flags, told anew by the entries of its names, and bytes that go over bytes.
+//! What is staged of one file that takes no room: its times and DOS flags,
+//! told anew by the entries of its names, and bytes that go over bytes.
 #![tactic(auto)]
 
 mod attributes;

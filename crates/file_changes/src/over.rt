@@ -42,14 +42,17 @@ pub fn write_over<D: Disk>(
     requires mirror { IsMirrorInside (mounted_of D.Disk mft.old) }
     requires sound { is_mft_broken D.Disk mft.old ≡ false }
     requires volume { IsInUse D.Disk mft.old }
-    requires can { IsTrue (view D.Disk mft.old).told → CanWriteOver (view D.Disk mft.old) (mounted_of D.Disk mft.old).upcase file.now found.now
+    requires can { IsTrue (view D.Disk mft.old).told
+        → CanWriteOver (view D.Disk mft.old) (mounted_of D.Disk mft.old).upcase file.now found.now
         number at (length bytes.now) }
     ensures over { OnOk result (IsTrue (view D.Disk mft.old).told → (can : CanWriteOver (view D.Disk mft.old)
         (mounted_of D.Disk mft.old).upcase file.now found.now number at (length bytes.now))
         → WritesOver (view D.Disk mft.old) (view D.Disk mft.new) number can.is.part.name at bytes.now times.now flags) }
-    ensures places { IsTrue (view D.Disk mft.old).told → (can : CanWriteOver (view D.Disk mft.old) (mounted_of D.Disk mft.old).upcase file.now
+    ensures places { IsTrue (view D.Disk mft.old).told
+        → (can : CanWriteOver (view D.Disk mft.old) (mounted_of D.Disk mft.old).upcase file.now
         found.now number at (length bytes.now))
-        → StagesOver D.Disk number can.is.part.name at (length bytes.now) (names_of (records_of (view D.Disk mft.old)) number) mft.old mft.new }
+        → StagesOver D.Disk number can.is.part.name at (length bytes.now)
+        (names_of (records_of (view D.Disk mft.old)) number) mft.old mft.new }
     ensures tables { OnOk result (TellsStored D.Disk mft.new) }
     ensures disk { KeepsDisk D.Disk mft.old mft.new }
     ensures err { IfErr result IsReadNo }

@@ -1,5 +1,6 @@
 //! Bytes that go over those of a value of a file, in the record that holds it, and what the file shows of itself is told anew.
-ghost use Rattle.std.specs.Prelude.{◌≡◌, ◌≤◌, ◌<◌, ◌+◌, ◌^◌, false, IfErr, IsTrue, MatchBool, MatchResult, OnErr, OnOk, Some, length, slice_get};
+ghost use Rattle.std.specs.Prelude.{◌≡◌, ◌≤◌, ◌<◌, ◌+◌, ◌^◌, false, IfErr, IsTrue, MatchBool, MatchResult, OnErr, OnOk};
+ghost use Rattle.std.specs.Prelude.{Some, length, slice_get};
 ghost use Rattle.volume_def.specs.Coverage.{IsApart};
 ghost use Rattle.volume_def.specs.FileNames.{names_of};
 ghost use Rattle.volume_def.specs.Files.{Part, parts, records_of};

@@ -69,7 +69,8 @@ views-ordered (x ∷ xs) sorted i j d le lt =
 
 -- lists of views that show the same
 pub map-same : (xs ys : List EntryView) → length xs ≡ length ys
-    → ((k : ℕ) (d : EntryView) → k < length xs → entry_shown (get_or xs k d) ≡ entry_shown (get_or ys k d)) → map entry_shown xs ≡ map entry_shown ys
+    → ((k : ℕ) (d : EntryView) → k < length xs → entry_shown (get_or xs k d) ≡ entry_shown (get_or ys k d))
+    → map entry_shown xs ≡ map entry_shown ys
 map-same [] [] long h = refl
 map-same [] (y ∷ ys) long h = absurd (omega arith)
 map-same (x ∷ xs) [] long h = absurd (omega arith)
@@ -87,12 +88,14 @@ map-at xs ys h k d l =
 -- what the two sorts give
 pub same_entries-decided : (entries wanted entries' wanted' : List EntryView) (result : Bool)
     → IsPermutation entries entries' → IsPermutation wanted wanted' → IsSortedBy view_lt entries' → IsSortedBy view_lt wanted'
-    → IsTrue result ↔ map entry_shown entries' ≡ map entry_shown wanted' → IsTrue result ↔ SameItems (map entry_shown wanted) (map entry_shown entries)
+    → IsTrue result ↔ map entry_shown entries' ≡ map entry_shown wanted'
+    → IsTrue result ↔ SameItems (map entry_shown wanted) (map entry_shown entries)
 same_entries-decided entries wanted entries' wanted' result moved moved' up up' decided =
     let es = SameItems-permutation _ _ (IsPermutation-map entry_shown entries entries' moved) in
     let ws = SameItems-permutation _ _ (IsPermutation-map entry_shown wanted wanted' moved') in (
       λ yes. SameItems-trans (map entry_shown wanted) (map entry_shown wanted') (map entry_shown entries) ws
-          (subst (λ xs. SameItems xs (map entry_shown entries)) (decided.0 yes) (SameItems-sym (map entry_shown entries) (map entry_shown entries') es)),
+          (subst (λ xs. SameItems xs (map entry_shown entries)) (decided.0 yes)
+          (SameItems-sym (map entry_shown entries) (map entry_shown entries') es)),
       λ h. decided.1 (same-ordered entry_code entry_order entry_total entry_ties (map entry_shown entries') (map entry_shown wanted')
           (views-ordered entries' up) (views-ordered wanted' up')
           (SameItems-trans (map entry_shown entries') (map entry_shown entries) (map entry_shown wanted')

@@ -1,16 +1,19 @@
 -- Outlines of one type and name that rise are one attribute exactly in the order that they have, and so a list in its order is
 -- judged group by group.
-use Rattle.std.proofs.Common.{◌≡◌, ◌≢◌, ◌<◌, ◌≤◌, ◌+◌, ◌==◌, ℕ, zero, suc, Bool, true, false, cond, List, [], ◌∷◌, ◌++◌, length, get_or, All, refl, sym, ap, subst, inl, inr, ◌∙◌, arith, append-nil}
+use Rattle.std.proofs.Common.{◌≡◌, ◌≢◌, ◌<◌, ◌≤◌, ◌+◌, ◌==◌, ℕ, zero, suc, Bool, true, false, cond, List, [], ◌∷◌, ◌++◌, length, get_or}
+use Rattle.std.proofs.Common.{All, refl, sym, ap, subst, inl, inr, ◌∙◌, arith, append-nil}
 use Rattle.std.specs.Prelude.{filter}
 use Rattle.std.specs.List.{Contains, count_by}
 use Rattle.std.proofs.lemmas.Bool.{cases_Bool, cases_lt, ne_eqb}
-use Rattle.std.proofs.lemmas.List.Elements.{All-append, All-contains, All-head, All-tail, Contains-append_left, Contains-append_right, Contains-get_or, filter-append}
+use Rattle.std.proofs.lemmas.List.Elements.{All-append, All-contains, All-head, All-tail, Contains-append_left}
+use Rattle.std.proofs.lemmas.List.Elements.{Contains-append_right, Contains-get_or, filter-append}
 use Rattle.ntfs_def.specs.declared.kinds.TheConstants.{FILE_NAME}
 use Rattle.list_laws.proofs.FindLaws.{count-cons, count-no}
 use Rattle.list_laws.proofs.SameItemsLaws.{SameItems-same}
 use Rattle.file_clauses.specs.declared.extents.Held.{Held}
 use Rattle.file_clauses.specs.declared.extents.Held.TheVariants.{InClusters, InRecord}
-use Rattle.file_clauses.specs.Extents.{AreAllWhole, AreInOrder, AreOne, Begins, Follow, HaveClusters, IsWholeInOrder, Outline, clusters_covered, first_of, first_vcn, is_like}
+use Rattle.file_clauses.specs.Extents.{AreAllWhole, AreInOrder, AreOne, Begins, Follow, HaveClusters, IsWholeInOrder, Outline}
+use Rattle.file_clauses.specs.Extents.{clusters_covered, first_of, first_vcn, is_like}
 use Rattle.file_clauses.proofs.OutlineOrderLaws.{like-itself, like-same, like-told}
 use Rattle.file_clauses.proofs.OutlineLaws.{outline_code}
 use Rattle.list_laws.proofs.SortedLaws.{Apart, Rises, same-sorted}

@@ -1,10 +1,12 @@
 -- What the tests on extents of one type and name tell, and on a file whose parts stand in one record.
-use Rattle.std.proofs.Common.{◌≡◌, ◌≢◌, ◌↔◌, ◌<◌, ◌≤◌, ◌+◌, ◌-◌, ◌*◌, ℕ, Bool, true, false, List, [], ◌∷◌, ◌++◌, length, map, take, drop, get_or, All, IsTrue, IfSome, Option, Some, None, unwrap_or, refl, sym, ap, subst, inr, ◌∙◌, arith}
+use Rattle.std.proofs.Common.{◌≡◌, ◌≢◌, ◌↔◌, ◌<◌, ◌≤◌, ◌+◌, ◌-◌, ◌*◌, ℕ, Bool, true, false, List, [], ◌∷◌, ◌++◌, length, map, take, drop}
+use Rattle.std.proofs.Common.{get_or, All, IsTrue, IfSome, Option, Some, None, unwrap_or, refl, sym, ap, subst, inr, ◌∙◌, arith}
 use Rattle.std.specs.Prelude.{is_none, option_map, sum_by}
 use Rattle.std.specs.Cmp.{IsStrictWeakOrder}
 use Rattle.std.specs.List.Sorted.{IsPermutation, IsSortedBy}
 use Rattle.std.specs.Ordering.{is_lt}
-use Rattle.std.proofs.lemmas.List.{drop-drop, drop-map, get_or-drop, get_or-map, get_or-take, get_or_default, length-drop, length-map, length-take-le, take-append-drop, take-map}
+use Rattle.std.proofs.lemmas.List.{drop-drop, drop-map, get_or-drop, get_or-map, get_or-take, get_or_default, length-drop, length-map}
+use Rattle.std.proofs.lemmas.List.{length-take-le, take-append-drop, take-map}
 use Rattle.std.proofs.lemmas.List.Elements.{All-map, Contains-get_or}
 use Rattle.std.proofs.lemmas.List.Sorted.{IsPermutation-map, ranks_by, sorted_far}
 use Rattle.std.specs.List.{Contains}
@@ -16,7 +18,8 @@ use Rattle.list_laws.specs.SameItems.{SameItems}
 use Rattle.volume_def.proofs.RecordLaws.{parts_in-other, parts_in-own, parts_in-unused}
 use Rattle.list_laws.proofs.SameItemsLaws.{SameItems-permutation, SameItems-sym, SameItems-trans}
 use Rattle.file_clauses.specs.declared.extents.Extent.{Extent}
-use Rattle.file_clauses.specs.Extents.{AreAllWhole, AreInOrder, AreWholeParts, Follow, HasFitSizes, HaveClusters, IsAlone, IsWholeInOrder, Outline, clusters_covered, is_like, outline_order, outlined}
+use Rattle.file_clauses.specs.Extents.{AreAllWhole, AreInOrder, AreWholeParts, Follow, HasFitSizes, HaveClusters, IsAlone, IsWholeInOrder}
+use Rattle.file_clauses.specs.Extents.{Outline, clusters_covered, is_like, outline_order, outlined}
 use Rattle.file_clauses.specs.Groups.{AreSorted, IsGroup}
 use Rattle.file_clauses.proofs.GroupLaws.{AreOne-sorted, group-whole, sorted-AreOne, whole-group}
 use Rattle.file_clauses.proofs.OutlineOrderLaws.{group-alike, group-apart, group-rises, outline_total}

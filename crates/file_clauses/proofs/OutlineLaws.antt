@@ -1,5 +1,6 @@
 -- What the clause on extents asks of parts, it asks of their outlines.
-use Rattle.std.proofs.Common.{◌≡◌, ◌≢◌, ◌↔◌, ◌<◌, ◌≤◌, ◌+◌, ◌*◌, ℕ, Bool, List, [], ◌∷◌, map, length, All, IsTrue, Option, Some, None, cond, get_or, unwrap_or, refl, sym, ap, subst, inl, inr, ◌∙◌, arith}
+use Rattle.std.proofs.Common.{◌≡◌, ◌≢◌, ◌↔◌, ◌<◌, ◌≤◌, ◌+◌, ◌*◌, ℕ, Bool, List, [], ◌∷◌, map, length, All, IsTrue, Option, Some, None, cond}
+use Rattle.std.proofs.Common.{get_or, unwrap_or, refl, sym, ap, subst, inl, inr, ◌∙◌, arith}
 use Rattle.std.specs.Prelude.{IfSome, IsSome, IsSomeAnd, filter, sum_by}
 use Rattle.std.specs.Coded.{Coded, code_by, coded×, coded_ℕ, coded_list, coded_option}
 use Rattle.std.proofs.lemmas.Bool.{cases_Bool}
@@ -10,13 +11,15 @@ use Rattle.ntfs_def.specs.declared.kinds.TheConstants.{FILE_NAME}
 use Rattle.ntfs_def.specs.Runs.{total_clusters}
 use Rattle.volume_def.specs.ExtentsClause.{AreAttribute, AreWhole, BeginsAt, FitExtents, FollowFrom, last_vcn_of}
 use Rattle.volume_def.specs.Files.{all_covered}
-use Rattle.volume_def.specs.Files.{Clusters, Content, Part, Value, content_extent, content_runs, content_value, is_of, part_clusters, parts_like}
+use Rattle.volume_def.specs.Files.{Clusters, Content, Part, Value, content_extent, content_runs, content_value}
+use Rattle.volume_def.specs.Files.{is_of, part_clusters, parts_like}
 use Rattle.list_laws.specs.SameItems.{SameItems}
 use Rattle.list_laws.proofs.CodedLaws.{SameItems-All, SameItems-lifted}
 use Rattle.list_laws.proofs.SameItemsLaws.{SameItems-filter, SameItems-map, SameItems-sym, SameItems-trans}
 use Rattle.file_clauses.specs.declared.extents.Held.{Held}
 use Rattle.file_clauses.specs.declared.extents.Held.TheVariants.{InClusters, InRecord}
-use Rattle.file_clauses.specs.Extents.{AreAllWhole, AreInOrder, AreOne, AreWholeParts, Begins, FitsFirst, Follow, HasFitSizes, HaveClusters, IsInRecord, IsWholeInOrder, Outline, clusters_covered, covered_by, held_of, is_like, outline_of}
+use Rattle.file_clauses.specs.Extents.{AreAllWhole, AreInOrder, AreOne, AreWholeParts, Begins, FitsFirst, Follow, HasFitSizes, HaveClusters}
+use Rattle.file_clauses.specs.Extents.{IsInRecord, IsWholeInOrder, Outline, clusters_covered, covered_by, held_of, is_like, outline_of}
 use Rattle.list_laws.proofs.PieceLaws.{All-unmap}
 
 -- Outlines are told apart.
@@ -27,7 +30,8 @@ cases_of (InClusters sizes covered) = Some ((sizes.allocated, (sizes.real, (size
 
 abbrev held_by : Option ((ℕ × (ℕ × (ℕ × (ℕ × ℕ)))) × Option ℕ) → Held
 held_by None = InRecord
-held_by (Some p) = InClusters (record { allocated = p.0.0; real = p.0.1.0; initialized = p.0.1.1.0; first = p.0.1.1.1.0; last = p.0.1.1.1.1 }) p.1
+held_by (Some p) =
+    InClusters (record { allocated = p.0.0; real = p.0.1.0; initialized = p.0.1.1.0; first = p.0.1.1.1.0; last = p.0.1.1.1.1 }) p.1
 
 held_by-cases : (held : Held) → held_by (cases_of held) ≡ held
 held_by-cases InRecord = refl

@@ -1,5 +1,6 @@
 -- The order of outlines: those of one type and name stand together, and rise.
-use Rattle.std.proofs.Common.{◌≡◌, ◌<◌, ◌≤◌, ◌+◌, ◌-◌, ◌==◌, ◌&&◌, ℕ, true, false, List, length, take, drop, get_or, All, refl, sym, ap, inl, inr, ◌∙◌, arith, eq-eqb}
+use Rattle.std.proofs.Common.{◌≡◌, ◌<◌, ◌≤◌, ◌+◌, ◌-◌, ◌==◌, ◌&&◌, ℕ, true, false, List, length, take, drop, get_or, All, refl, sym, ap}
+use Rattle.std.proofs.Common.{inl, inr, ◌∙◌, arith, eq-eqb}
 use Rattle.std.specs.declared.cmp.Ordering.TheVariants.{Equal}
 use Rattle.std.specs.Cmp.{IsTotalOrder}
 use Rattle.std.specs.Ordering.{is_eq, is_gt, is_lt, nat_cmp, ordering_then}

@@ -3,7 +3,9 @@ use Rattle.std.proofs.Common.{◌≡◌, ℕ, ◌+◌, ◌*◌, ◌%◌, ◌<◌
 use Rattle.std.specs.Prelude.{Some, None, slice_index}
 use Rattle.std.proofs.lemmas.Bool.{cases_Bool, cases_lt, lt-leb}
 use Rattle.ntfs_def.specs.declared.kinds.TheConstants.{VOLUME_INFORMATION}
-use Rattle.ntfs_def.specs.Attribute.{Body, NonResident, Resident, attribute_at, attribute_kind, attribute_len, content_bytes, content_end, content_offset, extent_at, is_resident, name_bytes, name_end, name_offset, name_units, runs_offset, value_len, value_of, value_offset, value_place}
+use Rattle.ntfs_def.specs.Attribute.{Body, NonResident, Resident, attribute_at, attribute_kind, attribute_len, content_bytes, content_end}
+use Rattle.ntfs_def.specs.Attribute.{content_offset, extent_at, is_resident, name_bytes, name_end, name_offset, name_units, runs_offset}
+use Rattle.ntfs_def.specs.Attribute.{value_len, value_of, value_offset, value_place}
 use Rattle.ntfs_def.specs.Record.{used_size}
 use Rattle.ntfs_def.specs.Shape.{IsAttribute}
 use Rattle.volume_def.specs.VersionClause.{IsVersionAt}
@@ -46,7 +48,8 @@ module _ (block : List ℕ) (at : ℕ) where
 
   pub place-resident : (place : ℕ) → value_place block at ≡ Some place → place ≡ at + value_offset block at
   place-resident place is = elim (cases_Bool (is_resident block at)) [
-    | inl t ↦ let e : Some (at + value_offset block at) ≡ Some place = sym (ap (λ r. cond r (Some (at + value_offset block at)) None) t) ∙ is in cc
+    | inl t ↦ let e : Some (at + value_offset block at) ≡ Some place =
+        sym (ap (λ r. cond r (Some (at + value_offset block at)) None) t) ∙ is in cc
     | inr f ↦ let e : None ≡ Some place = sym (ap (λ r. cond r (Some (at + value_offset block at)) None) f) ∙ is in absurd (cc)
   ]
 
@@ -78,7 +81,8 @@ module _ (block : List ℕ) (at : ℕ) (attribute : IsAttribute block at) (all :
       (omega (arith, attribute.whole.content_inside, attribute.below_used)) ∙ omega arith
 
   -- what is found at the attribute, and what the clause asks of it
-  module _ (value : List ℕ) (place : ℕ) (name : length (attribute_at block at).name ≡ 0) (kind : (attribute_at block at).kind ≡ VOLUME_INFORMATION)
+  module _ (value : List ℕ) (place : ℕ) (name : length (attribute_at block at).name ≡ 0)
+      (kind : (attribute_at block at).kind ≡ VOLUME_INFORMATION)
       (value_is : value_of (attribute_at block at).body ≡ Some value) (place_is : value_place block at ≡ Some place) where
     pub version-there : place % 8 ≡ 0 → version_in (Some value) ≡ Some wanted → IsVersionAt block at
     version-there aligned right =

@@ -1,5 +1,6 @@
 -- What a list has to say of the parts of a record.
-use Rattle.std.proofs.Common.{◌≡◌, ◌==◌, ◌++◌, ◌+◌, ◌*◌, ◌^◌, ◌<◌, ◌/◌, ◌%◌, ℕ, true, false, cond, not, List, [], ◌∷◌, map, Some, refl, sym, ap, append_assoc, ◌∙◌, arith}
+use Rattle.std.proofs.Common.{◌≡◌, ◌==◌, ◌++◌, ◌+◌, ◌*◌, ◌^◌, ◌<◌, ◌/◌, ◌%◌, ℕ, true, false, cond, not, List, [], ◌∷◌, map, Some, refl, sym}
+use Rattle.std.proofs.Common.{ap, append_assoc, ◌∙◌, arith}
 use Rattle.std.proofs.lemmas.List.{map-append}
 use Rattle.ntfs_def.specs.declared.kinds.TheConstants.{ATTRIBUTE_LIST}
 use Rattle.ntfs_def.specs.Attribute.{Attribute}
@@ -20,7 +21,8 @@ pub reference_in-made : (n sequence : ℕ) → n < 2 ^ 48 → reference_in (sequ
 reference_in-made n sequence small =
     let low : (sequence * 2 ^ 48 + n) % 2 ^ 48 ≡ n = omega arith in
     let high : (sequence * 2 ^ 48 + n) / 2 ^ 48 ≡ sequence = omega arith in
-    let first : record { number = (sequence * 2 ^ 48 + n) % 2 ^ 48; sequence = (sequence * 2 ^ 48 + n) / 2 ^ 48 } ≡ record { number = n; sequence = (sequence * 2 ^ 48 + n) / 2 ^ 48 } =
+    let first : record { number = (sequence * 2 ^ 48 + n) % 2 ^ 48; sequence = (sequence * 2 ^ 48 + n) / 2 ^ 48 }
+    ≡ record { number = n; sequence = (sequence * 2 ^ 48 + n) / 2 ^ 48 } =
     ap (λ (m : ℕ). let r : Reference = record { number = m; sequence = (sequence * 2 ^ 48 + n) / 2 ^ 48 } in r) low in
     first ∙ ap (λ (s : ℕ). let r : Reference = record { number = n; sequence = s } in r) high
 
@@ -28,12 +30,14 @@ reference_in-made n sequence small =
 pub wanted_in-list : (n sequence : ℕ) (a : Attribute) (rest : List Attribute) → (a.kind == ATTRIBUTE_LIST) ≡ true
     → wanted_in n sequence (a ∷ rest) ≡ wanted_in n sequence rest
 wanted_in-list n sequence a rest is =
-    ap (λ b. map (wanted_of n sequence) (cond (not b) (part_of n a ∷ listed_parts (map (part_of n) rest)) (listed_parts (map (part_of n) rest)))) is
+    ap (λ b. map (wanted_of n sequence)
+    (cond (not b) (part_of n a ∷ listed_parts (map (part_of n) rest)) (listed_parts (map (part_of n) rest)))) is
 
 pub wanted_in-other : (n sequence : ℕ) (a : Attribute) (rest : List Attribute) → (a.kind == ATTRIBUTE_LIST) ≡ false
     → wanted_in n sequence (a ∷ rest) ≡ wanted_of n sequence (part_of n a) ∷ wanted_in n sequence rest
 wanted_in-other n sequence a rest is =
-    ap (λ b. map (wanted_of n sequence) (cond (not b) (part_of n a ∷ listed_parts (map (part_of n) rest)) (listed_parts (map (part_of n) rest)))) is
+    ap (λ b. map (wanted_of n sequence)
+    (cond (not b) (part_of n a ∷ listed_parts (map (part_of n) rest)) (listed_parts (map (part_of n) rest)))) is
 
 -- the entries of a record's parts
 pub entries_in-record : (records : Records) (n : ℕ) (r : Record) (attributes : List Attribute) → records.record_at n ≡ Some r
@@ -45,7 +49,8 @@ entries_in-record records n r (a ∷ rest) is =
     ap (λ o. wanted_of n (sequence_in o) (part_of n a)) is in
     elim (a.kind == ATTRIBUTE_LIST) as (λ b.
     map (entry_in records) (cond (not b) (part_of n a ∷ listed_parts (map (part_of n) rest)) (listed_parts (map (part_of n) rest)))
-    ≡ map (wanted_of n r.header.sequence) (cond (not b) (part_of n a ∷ listed_parts (map (part_of n) rest)) (listed_parts (map (part_of n) rest)))) [
+    ≡ map (wanted_of n r.header.sequence)
+    (cond (not b) (part_of n a ∷ listed_parts (map (part_of n) rest)) (listed_parts (map (part_of n) rest)))) [
       | true ↦ behind
       | false ↦ ap (λ e. e ∷ map (entry_in records) (listed_parts (map (part_of n) rest))) first
           ∙ ap (λ es. wanted_of n r.header.sequence (part_of n a) ∷ es) behind

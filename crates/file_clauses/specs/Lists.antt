@@ -12,8 +12,10 @@ use Rattle.volume_def.specs.Values.{first_vcn_of}
 -- of it.
 abbrev pub entry_order : ListEntry → ListEntry → Ordering
 entry_order =
-    then_cmp (then_cmp (then_cmp (then_cmp (then_cmp (on (λ entry. entry.holder.number) nat_cmp) (on (λ entry. entry.holder.sequence) nat_cmp))
-    (on (λ entry. entry.id) nat_cmp)) (on (λ entry. entry.kind) nat_cmp)) (on (λ entry. entry.first) nat_cmp)) (on (λ entry. entry.name) by_numbers)
+    then_cmp
+    (then_cmp (then_cmp (then_cmp (then_cmp (on (λ entry. entry.holder.number) nat_cmp) (on (λ entry. entry.holder.sequence) nat_cmp))
+    (on (λ entry. entry.id) nat_cmp)) (on (λ entry. entry.kind) nat_cmp)) (on (λ entry. entry.first) nat_cmp))
+    (on (λ entry. entry.name) by_numbers)
 
 -- The value is a list, of exactly these entries in any order.
 pub record NamesEach (wanted : List ListEntry) (value : List ℕ) : Type 0 where

@@ -4,7 +4,8 @@ ghost use Rattle.volume_def.specs.ExtentsClause.{MeetsExtents, last_vcn_of};
 ghost use Rattle.volume_def.specs.Files.{Part, Records, is_base, record_of};
 ghost use Rattle.list_laws.specs.SameItems.{SameItems};
 ghost use Rattle.attr_view.specs.View.{viewed_block};
-ghost use Rattle.file_clauses.specs.Extents.{AreAllWhole, AreInOrder, AreWholeParts, Begins, Follow, HasFitSizes, HaveClusters, IsAlone, IsOneValue, clusters_covered, is_bad_outline, is_like, outline_of, outline_order, outlined};
+ghost use Rattle.file_clauses.specs.Extents.{AreAllWhole, AreInOrder, AreWholeParts, Begins, Follow, HasFitSizes, HaveClusters, IsAlone};
+ghost use Rattle.file_clauses.specs.Extents.{IsOneValue, clusters_covered, is_bad_outline, is_like, outline_of, outline_order, outlined};
 ghost use Rattle.file_clauses.specs.Groups.{AreSorted, IsGroup};
 
 use crate::extents::{Extent, Held, extents_of};

@@ -89,7 +89,8 @@ module _ (f links : ℕ) (old new : VolumeView) (t : CountsFileLinks f links old
   now-at : record_on new f ≡ Some now_record
   unfolding record_in
   now-at =
-      record_at-written old new f t.stored t.counts.replaces t.counts.told t.counts.inside ∙ ap (λ b. cond b (Some now_record) None) t.counts.used_still
+      record_at-written old new f t.stored t.counts.replaces t.counts.told t.counts.inside
+      ∙ ap (λ b. cond b (Some now_record) None) t.counts.used_still
 
   changes : ChangesAt (records_of old) (records_of new) f
   changes = ChangesAt-block old new f t.stored t.counts.replaces
@@ -178,7 +179,8 @@ module _ (f links : ℕ) (old new : VolumeView) (t : CountsFileLinks f links old
     | inl same ↦ λ inside used. subst IsWellFormed (sym (ap new.block same ∙ t.counts.replaces.block t.counts.told)) t.counts.well
     | inr ne ↦ λ inside used.
         subst IsWellFormed (sym (t.counts.replaces.blocks m ne))
-        (shape m (subst (λ (l : TableLayout). m < l.count) layout inside) (subst (λ b. IsTrue (is_in_use b)) (t.counts.replaces.blocks m ne) used))
+        (shape m (subst (λ (l : TableLayout). m < l.count) layout inside)
+        (subst (λ b. IsTrue (is_in_use b)) (t.counts.replaces.blocks m ne) used))
   ]
 
   right-still : IsRightRecord f was_record → IsRightRecord f now_record
@@ -253,7 +255,8 @@ module _ (f links : ℕ) (old new : VolumeView) (t : CountsFileLinks f links old
   forms : (g : ℕ) → SameItems (forms_of old g) (forms_of new g)
   forms g = forms-same old new g layout (λ m. elim (cases_eq m f) [
     | inr ne ↦ ap (λ o. option_map_or (λ r. cond (file_of m r == g) (attributes (opened_of (new.block m))) []) o []) (changes.others m ne)
-        ∙ ap (λ b. option_map_or (λ r. cond (file_of m r == g) (attributes (opened_of b)) []) (record_on old m) []) (t.counts.replaces.blocks m ne)
+        ∙ ap (λ b. option_map_or (λ r. cond (file_of m r == g) (attributes (opened_of b)) []) (record_on old m) [])
+        (t.counts.replaces.blocks m ne)
     | inl same ↦ ap (attributes_on new g) same
         ∙ ap (λ o. option_map_or (λ r. cond (file_of f r == g) (attributes (opened_of (new.block f))) []) o []) now-at
         ∙ ap (λ h. cond (h == g) (attributes (opened_of (new.block f))) []) same-file

@@ -1,6 +1,6 @@
 -- A LIST IS WRITTEN ANEW: what that costs, and that it costs nothing where it owns no more clusters than it owned.
-use Rattle.std.proofs.Common.{◌≡◌, ◌≢◌, ◌≤◌, ◌+◌, ◌==◌, ◌&&◌, ◌||◌, not, max, ℕ, Bool, true, false, cond, List, [], ◌∷◌, filter, refl, sym, ap}
-use Rattle.std.proofs.Common.{subst, inl, inr, ◌∙◌, arith}
+use Rattle.std.proofs.Common.{◌≡◌, ◌≢◌, ◌≤◌, ◌+◌, ◌==◌, ◌&&◌, ◌||◌, not, max, ℕ, Bool, true, false, cond, List, [], ◌∷◌, filter, refl, sym}
+use Rattle.std.proofs.Common.{ap, subst, inl, inr, ◌∙◌, arith}
 use Rattle.std.specs.Prelude.{sum_by}
 use Rattle.std.proofs.lemmas.Bool.{cases_eq, eq-eqb, ne_eqb, eqb-true}
 use Rattle.std.proofs.lemmas.List.Sums.{sum_by-cons}
@@ -130,7 +130,8 @@ Keeps-list old new n was now wants volume bytes e c some = λ plan pos planned.
     }
 
 -- NO MORE CLUSTERS: of a test that takes all lists, or none, what those own that come is no more than those did that go.
-fewer : (goes : ℕ → Bool) (old new : Records) (n : ℕ) (was now : List Part) → ShrinksList goes old new n was now → (p : Part → Bool) (b : Bool)
+fewer : (goes : ℕ → Bool) (old new : Records) (n : ℕ) (was now : List Part) → ShrinksList goes old new n was now
+    → (p : Part → Bool) (b : Bool)
     → ((x : Part) → is_list x ≡ true → p x ≡ b) → sum_by part_size (filter p now) ≤ sum_by part_size (filter p was)
 fewer goes old new n was now c p true pass =
     let a = ap (sum_by part_size) (lists-pass p was pass c.was_lists) in

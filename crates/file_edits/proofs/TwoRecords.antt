@@ -43,7 +43,8 @@ module _ (key : Key) (v w wants : Wants) (old mid new : VolumeView) (was between
   together : Stepped key.file no_key both wants old new was now
   together = stepped-mended key no_key both wants old new was now
       (stepped-mended key one both wants old new was now
-      (stepped-then key.file one (either (same_key key) one) (same_key key) (same_key key) v w wants old mid new was between now within begun
+      (stepped-then key.file one (either (same_key key) one) (same_key key)
+      (same_key key) v w wants old mid new was between now within begun
       ended) whole) whole
 
   pub edited-two : LeavesNoneBare old new key.file → Edited (same_key key) wants old new was now

@@ -92,8 +92,8 @@ pub record MovesAttribute (f : ℕ) (old new : VolumeView) : Type 0 where
   pub tellable : AreTellable (told_of old f)
   pub still : is_emptied (record_on mid to) ≡ false
 
--- THE LIST of a file was written anew in record n, or went, and owns no more clusters than it owned. A base record that was emptied stays so,
--- unless it is that of a file which goes.
+-- THE LIST of a file was written anew in record n, or went, and owns no more clusters than it owned. A base record that was emptied stays
+-- so, unless it is that of a file which goes.
 pub record ShrinksList (goes : ℕ → Bool) (old new : Records) (n : ℕ) (was now : List Part) : Type 0 where
   pub was_lists : filter (λ part. not (is_list part)) was ≡ []
   pub now_lists : filter (λ part. not (is_list part)) now ≡ []

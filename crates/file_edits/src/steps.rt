@@ -26,7 +26,8 @@ pub fn steps_begun()
 
 /// An edit of one attribute in one record is a step, behind which the attribute may lag, and costs what the edit does (`edited`). So is one
 /// of the list, which owns no more clusters than it owned, or at most one cluster more than its length takes (`listed`); where it owns no
-/// more than it owned it costs nothing (`shrunk`), and it may go with its file. So are bytes written into the clusters of the list (`written`).
+/// more than it owned it costs nothing (`shrunk`), and it may go with its file.
+/// So are bytes written into the clusters of the list (`written`).
 pub fn record_steps()
     ensures edited { (key : Key) (lags : Key → Bool) (wants : Wants) (old new : VolumeView) (before after : Marks)
         → (e : EditsPart key old new before after)

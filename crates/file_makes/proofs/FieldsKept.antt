@@ -6,19 +6,22 @@ use Rattle.std.proofs.lemmas.List.{get_or-replicate, get_or-take, get_or_past, l
 use Rattle.vol_bytes.specs.Field.{SameOutside, u16_at, u32_at, u64_at}
 use Rattle.vol_bytes.proofs.FieldLaws.{u16_at-same, u32_at-same, u64_at-same}
 
-pub u16-kept : (old new : List ℕ) (from to at : ℕ) → SameOutside old new from to → (at + 2 ≤ from) ⊎ (to ≤ at) → u16_at new at ≡ u16_at old at
+pub u16-kept : (old new : List ℕ) (from to at : ℕ) → SameOutside old new from to → (at + 2 ≤ from) ⊎ (to ≤ at)
+    → u16_at new at ≡ u16_at old at
 u16-kept old new from to at same apart = u16_at-same old new at (λ k low high. elim apart [
   | inl a ↦ same.below k (omega (arith, high, a))
   | inr b ↦ same.above k (omega (arith, low, b))
 ])
 
-pub u32-kept : (old new : List ℕ) (from to at : ℕ) → SameOutside old new from to → (at + 4 ≤ from) ⊎ (to ≤ at) → u32_at new at ≡ u32_at old at
+pub u32-kept : (old new : List ℕ) (from to at : ℕ) → SameOutside old new from to → (at + 4 ≤ from) ⊎ (to ≤ at)
+    → u32_at new at ≡ u32_at old at
 u32-kept old new from to at same apart = u32_at-same old new at (λ k low high. elim apart [
   | inl a ↦ same.below k (omega (arith, high, a))
   | inr b ↦ same.above k (omega (arith, low, b))
 ])
 
-pub u64-kept : (old new : List ℕ) (from to at : ℕ) → SameOutside old new from to → (at + 8 ≤ from) ⊎ (to ≤ at) → u64_at new at ≡ u64_at old at
+pub u64-kept : (old new : List ℕ) (from to at : ℕ) → SameOutside old new from to → (at + 8 ≤ from) ⊎ (to ≤ at)
+    → u64_at new at ≡ u64_at old at
 u64-kept old new from to at same apart = u64_at-same old new at (λ k low high. elim apart [
   | inl a ↦ same.below k (omega (arith, high, a))
   | inr b ↦ same.above k (omega (arith, low, b))

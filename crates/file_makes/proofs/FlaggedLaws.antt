@@ -25,7 +25,8 @@ use Rattle.made_edits.specs.StoredRecordBit.{StoresRecordBit}
 use Rattle.file_makes.specs.Steps.{ComesFlagged, IsWrittenRecord, MakesRecord, StagesFile}
 use Rattle.file_makes.proofs.FreeParts.{parts-free}
 
-pub flagged-comes : (directory : Bool) (old flagged new : VolumeView) (mounted : Mounted) (sectors n : ℕ) (standard key : List ℕ) → IsTrue old.told
+pub flagged-comes : (directory : Bool) (old flagged new : VolumeView) (mounted : Mounted) (sectors n : ℕ) (standard key : List ℕ)
+    → IsTrue old.told
     → IsSoundVolume old mounted → HasOwners old → LiesOn sectors old.layout → IsOrdinaryFree mounted.records n
     → 1024 * n + 1024 ≤ old.layout.initialized → StoresRecordBit old flagged n
     → (IsWrittenRecord flagged n → parts (records_of flagged) n ≡ []
@@ -38,7 +39,8 @@ flagged-comes directory old flagged new mounted sectors n standard key told is o
       initialized = subst (λ (l : TableLayout). 1024 * n + 1024 ≤ l.initialized) (sym w.layout) low;
     } in
     let none : parts (records_of flagged) n ≡ [] =
-    ap (λ rs. parts rs n) (records-written old flagged (spot_at (record_bits old)) (n / 8) stores.bytes w) ∙ parts-free old mounted is n free in
+    ap (λ rs. parts rs n) (records-written old flagged (spot_at (record_bits old)) (n / 8) stores.bytes w)
+    ∙ parts-free old mounted is n free in
     record {
       flagged = flagged;
       stores = stores;
@@ -47,7 +49,8 @@ flagged-comes directory old flagged new mounted sectors n standard key told is o
 
 -- THE SECTORS: that of the flag, and those of the record
 pub flagged-places : {D : Type 0} (g : Ghosts D) (a b c : Mft D g) (n : ℕ) → KeepsDisk g a b
-    → ((sector : ℕ) → Contains (places g (stage_of g b)) sector → Contains (places g (stage_of g a)) sector ⊎ IsOfRecordBits (view g a) sector)
+    → ((sector : ℕ) → Contains (places g (stage_of g b)) sector
+    → Contains (places g (stage_of g a)) sector ⊎ IsOfRecordBits (view g a) sector)
     → StagesOnly g (record_places (view g b).layout n) (stage_of g b) (stage_of g c) → StagesFile g (view g a) n a c
 flagged-places g a b c n kept first second sector there = elim (second.only sector there) [
   | inl before ↦ elim (first sector before) [ inl was ↦ inl was | inr row ↦ inr (inl row) ]
@@ -56,7 +59,8 @@ flagged-places g a b c n kept first second sector there = elim (second.only sect
 
 -- .. one and two
 pub flagged-few : {D : Type 0} (g : Ghosts D) (layout : TableLayout) (a b c : Mft D g) (n : ℕ) → 24 ≤ n
-    → length (places g (stage_of g b)) ≤ length (places g (stage_of g a)) + 1 → StagesOnly g (record_places layout n) (stage_of g b) (stage_of g c)
+    → length (places g (stage_of g b)) ≤ length (places g (stage_of g a)) + 1
+    → StagesOnly g (record_places layout n) (stage_of g b) (stage_of g c)
     → length (places g (stage_of g c)) ≤ length (places g (stage_of g a)) + 3
 flagged-few g layout a b c n ordinary first second =
     let two = two-alone layout n (omega (arith, ordinary)) in

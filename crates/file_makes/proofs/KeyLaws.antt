@@ -1,5 +1,6 @@
 -- The value of a new name.
-use Rattle.std.proofs.Common.{◌≡◌, ℕ, ◌+◌, ◌*◌, ◌<◌, ◌≤◌, ◌&&◌, Bool, List, [], ◌∷◌, length, map, inl, refl, sym, ap, ◌∙◌, arith, slice_index, nat_le}
+use Rattle.std.proofs.Common.{◌≡◌, ℕ, ◌+◌, ◌*◌, ◌<◌, ◌≤◌, ◌&&◌, Bool, List, [], ◌∷◌, length, map, inl, refl, sym, ap, ◌∙◌}
+use Rattle.std.proofs.Common.{arith, slice_index, nat_le}
 use Rattle.std.specs.Prelude.{IsTrue}
 use Rattle.std.specs.List.{range_with_len}
 use Rattle.std.proofs.lemmas.Bool.{and_from, le-leb}
@@ -18,7 +19,8 @@ module _ (directory : Bool) (zero front key units : List ℕ) (parent moment : �
     (long : length zero ≡ 0x42 + 2 * length units) (zeros : (k : ℕ) → slice_index zero k ≡ 0) (len : length front ≡ length zero)
     (parent_is : u64_at front 0x00 ≡ parent)
     (times : u64_at front 0x08 ∷ u64_at front 0x10 ∷ u64_at front 0x18 ∷ u64_at front 0x20 ∷ [] ≡ moment ∷ moment ∷ moment ∷ moment ∷ [])
-    (flags : u32_at front 0x38 ≡ name_flags directory) (count : slice_index front 0x40 ≡ length units) (space : slice_index front 0x41 ≡ slice_index zero 0x41)
+    (flags : u32_at front 0x38 ≡ name_flags directory) (count : slice_index front 0x40 ≡ length units)
+    (space : slice_index front 0x41 ≡ slice_index zero 0x41)
     (sizes : (k : ℕ) → 0x28 ≤ k → k < 0x38 → slice_index front k ≡ slice_index zero k)
     (last : (k : ℕ) → 0x3C ≤ k → k < 0x40 → slice_index front k ≡ slice_index zero k)
     (each : (k : ℕ) → k < length units → u16_at key (0x42 + 2 * k) ≡ slice_index units k)
@@ -44,7 +46,8 @@ module _ (directory : Bool) (zero front key units : List ℕ) (parent moment : �
   unfolding units_at
   units-are =
       ap (λ n. map (λ k. u16_at key (0x42 + 2 * k)) (range_with_len 0 n)) count-is
-      ∙ sym (bytes-list units (λ k. u16_at key (0x42 + 2 * k)) 0 (length units) refl (λ j lt. let none : 0 + j ≡ j = omega arith in sym (ap (λ k. u16_at key (0x42 + 2 * k)) none ∙ each j lt)))
+      ∙ sym (bytes-list units (λ k. u16_at key (0x42 + 2 * k)) 0 (length units) refl
+      (λ j lt. let none : 0 + j ≡ j = omega arith in sym (ap (λ k. u16_at key (0x42 + 2 * k)) none ∙ each j lt)))
 
   name : name_in key ≡ record { parent = reference_in parent; namespace = 0; units = units }
   unfolding name_in

@@ -1,6 +1,6 @@
 -- A FILE MADE UNDER ITS NAME: what stands between its record and its entry, and what the steps are together.
-use Rattle.std.proofs.Common.{◌≡◌, ◌≢◌, ◌+◌, ◌*◌, ◌≤◌, ◌||◌, ℕ, Bool, List, [], Option, None, codes, cond, inl, inr, length, ltb, sym, ap, subst}
-use Rattle.std.proofs.Common.{◌∙◌, arith}
+use Rattle.std.proofs.Common.{◌≡◌, ◌≢◌, ◌+◌, ◌*◌, ◌≤◌, ◌||◌, ℕ, Bool, List, [], Option, None, codes, cond, inl, inr, length, ltb, sym, ap}
+use Rattle.std.proofs.Common.{subst, ◌∙◌, arith}
 use Rattle.std.proofs.lemmas.Bool.{cases_eq}
 use Rattle.std.specs.Prelude.{Contains, IsSomeAnd, IsTrue, filter}
 use Rattle.std.specs.List.{flat_map}
@@ -92,7 +92,8 @@ module _ (directory : Bool) (old new : VolumeView) (was now : Mounted) (n dir : 
     (may : MayMake directory old dir key) (long : length standard ≡ 72) (comes : ComesNamed directory old new was now n standard key) where
   file : HasNewFile directory old new (marks_of now) n dir standard key
   file =
-      has-new-file old new was now dir n may.node may.units standard key may.moment directory may.can (right-marks old was is) may.new_key long
+      has-new-file old new was now dir n may.node may.units standard key may.moment directory may.can
+      (right-marks old was is) may.new_key long
       comes
 
   index : IsDirectoryIndex old dir

@@ -21,7 +21,8 @@ use Rattle.file_makes.specs.Under.{StagesMade}
 
 -- the value of a new name, in the words of those above
 pub plain-new : (view : VolumeView) (directory : Bool) (parent dir : ℕ) (units : List ℕ) (moment : ℕ) (key : List ℕ)
-    → IsPlainKey directory parent units moment key → reference_in parent ≡ reference_of view dir → IsNewKey view directory dir units moment key
+    → IsPlainKey directory parent units moment key → reference_in parent ≡ reference_of view dir
+    → IsNewKey view directory dir units moment key
 plain-new view directory parent dir units moment key is same = record {
   whole = is.whole;
   name = is.name ∙ ap (λ (r : Reference). let n : FileName = record { parent = r; namespace = 0; units = units } in n) same;

@@ -1,5 +1,6 @@
 -- THE RECORD OF A NEW FILE, step by step.
-use Rattle.std.proofs.Common.{◌≡◌, ◌+◌, ◌*◌, ◌≤◌, ℕ, Bool, List, [], Option, Some, None, length, false, inl, inr, refl, sym, ap, subst, ◌∙◌, arith}
+use Rattle.std.proofs.Common.{◌≡◌, ◌+◌, ◌*◌, ◌≤◌, ℕ, Bool, List, [], Option, Some, None, length, false, inl, inr, refl, sym, ap}
+use Rattle.std.proofs.Common.{subst, ◌∙◌, arith}
 use Rattle.std.specs.Prelude.{◌∷◌, Contains, IsSomeAnd, IsTrue, map, slice_get}
 use Rattle.list_laws.proofs.MemberLaws.{Contains-map}
 use Rattle.std.proofs.lemmas.Bool.{cases_lt}
@@ -55,7 +56,8 @@ abbrev FirstGets : List Held → List Held → (Held → Held → Type 0) → Ty
 FirstGets olds news P = IsSomeAnd (slice_get olds 0) (λ was. IsSomeAnd (slice_get news 0) (P was))
 
 first-room : (records : List Held) (n used len : ℕ) → used + len ≤ 1024 → FirstHas records n used
-    → IsSomeAnd (slice_get records 0) (λ held. (1 ≤ length (attributes held.block)) × (used_size held.block + len ≤ 1024) × (held.number ≡ n))
+    → IsSomeAnd (slice_get records 0) (λ held. (1 ≤ length (attributes held.block))
+    × (used_size held.block + len ≤ 1024) × (held.number ≡ n))
 first-room [] n used len fits has = absurd has
 first-room (one ∷ rest) n used len fits has = (has.0, (let is = has.1 in omega (arith, fits, is)), has.2)
 
@@ -139,7 +141,8 @@ pub staged-then : {D : Type 0} (g : Ghosts D) (layout mid : TableLayout) (n m : 
 staged-then g layout mid n m a b c same number first second = record {
   only = λ s there. elim (second.only s there) [
     | inl was ↦ first.only s was
-    | inr new ↦ inr (subst (λ (l : TableLayout). Contains (record_places l n) s) same (subst (λ k. Contains (record_places mid k) s) number new))
+    | inr new ↦ inr (subst (λ (l : TableLayout). Contains (record_places l n) s) same
+        (subst (λ k. Contains (record_places mid k) s) number new))
   ];
 }
 
@@ -160,9 +163,11 @@ module _ (directory : Bool) (size : ℕ) (old one two new : VolumeView) (was mid
     (name_is : name ≡ resident_bytes FILE_NAME [] 2 key)
     (first : IsWrittenRecord old (file_number was) → IsWholeFile old was → ComesSecond old one was mid body)
     (second : IsWrittenRecord one (file_number mid) → IsWholeFile one mid → ComesSecond one two mid now name)
-    (third : IsWrittenRecord two (file_number now) → IsWholeFile two now → (stored : List ℕ) × CountsLinks two new (file_number now) stored 1)
+    (third : IsWrittenRecord two (file_number now) → IsWholeFile two now
+    → (stored : List ℕ) × CountsLinks two new (file_number now) stored 1)
   where
-    pub record-filled : IsWrittenRecord old (file_number was) → IsWholeFile old was → FillsRecord directory size old new (file_number was) key
+    pub record-filled : IsWrittenRecord old (file_number was) → IsWholeFile old was
+        → FillsRecord directory size old new (file_number was) key
     record-filled can whole =
         let a = first can whole in
         let can_then = written-still old one (file_number was) (file_number mid) same a.inserts.edits.replaces.told
@@ -197,7 +202,8 @@ pub made-places : {D : Type 0} (g : Ghosts D) (a b c : Mft D g) (n m : ℕ) → 
     → StagesOnly g (record_places (view g b).layout m) (stage_of g b) (stage_of g c)
     → StagesOnly g (record_places (view g a).layout n) (stage_of g a) (stage_of g c)
 made-places g a b c n m number least taken first second =
-    staged-then g (view g a).layout (view g b).layout n m (stage_of g a) (stage_of g b) (stage_of g c) (layout-taken g a b m least taken) number
+    staged-then g (view g a).layout (view g b).layout n m (stage_of g a) (stage_of g b) (stage_of g c)
+    (layout-taken g a b m least taken) number
     (subst (λ k. StagesOnly g (record_places (view g a).layout k) (stage_of g a) (stage_of g b)) number first) second
   where
     layout-taken : {D : Type 0} (g : Ghosts D) (a b : Mft D g) (m : ℕ) → IsLeastFree (mounted_of g a).records m

@@ -24,7 +24,8 @@ use Rattle.made_edits.specs.Comes.{EntersIndex}
 use Rattle.file_makes.specs.Enters.{EntersName, StagesEntry}
 use Rattle.file_makes.specs.NewBytes.{IsPlainEntry}
 
-same-reference : {n m s t : ℕ} → n ≡ m → s ≡ t → (let r : Reference = record { number = n; sequence = s } in r) ≡ record { number = m; sequence = t }
+same-reference : {n m s t : ℕ} → n ≡ m → s ≡ t
+    → (let r : Reference = record { number = n; sequence = s } in r) ≡ record { number = m; sequence = t }
 same-reference e f = cc
 
 header-sequence : (block : List ℕ) → (header_of block).sequence ≡ sequence_of block
@@ -42,7 +43,8 @@ reference-found view f reference header few is has =
         → header.sequence ≡ sequence_of (opened_of (view.block f))
     found None e h = absurd h
     found (Some r) e h =
-        h.1.sequence ∙ sym (ap (λ (r : Record). r.header.sequence) (record_at-block view f r e)) ∙ header-sequence (opened_of (view.block f))
+        h.1.sequence ∙ sym (ap (λ (r : Record). r.header.sequence) (record_at-block view f r e))
+        ∙ header-sequence (opened_of (view.block f))
 
 -- THE SECTORS of the entry, behind a call that only reads
 module _ {D : Type 0} (g : Ghosts D) (a b c : Mft D g) (n : ℕ) (reads : MftReads g a b n) where

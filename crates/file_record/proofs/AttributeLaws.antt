@@ -17,8 +17,8 @@ use Rattle.volume_def.specs.Edits.{KeepsRecordHeader}
 use Rattle.volume_def.specs.View.{ReplacesBlock, VolumeView}
 use Rattle.file_record.specs.declared.held.Held.{Held}
 use Rattle.file_record.specs.declared.parts.FileParts.{FileParts}
-use Rattle.file_record.specs.Attributes.{ChangesValue, InsertsAttribute, PutsIn, PutsInValue, PutsInstead, RemovesAttribute, ReplacesAttribute}
-use Rattle.file_record.specs.Attributes.{ResizesAttribute, header_after, with_bytes_at}
+use Rattle.file_record.specs.Attributes.{ChangesValue, InsertsAttribute, PutsIn, PutsInValue, PutsInstead, RemovesAttribute}
+use Rattle.file_record.specs.Attributes.{ReplacesAttribute, ResizesAttribute, header_after, with_bytes_at}
 use Rattle.file_record.specs.Held.{held_of}
 use Rattle.file_record.specs.Written.{IsWholeFile}
 use Rattle.file_record.proofs.OverwriteLaws.{resized-indexed}

@@ -43,6 +43,7 @@ pub least-reads : (view : VolumeView) (f : ℕ) → IsReadableVolume view → Is
 least-reads view f readable file = omega (arith, records-some view f (IsRecordOf-file view f readable file))
 
 -- a base record is a file's
-pub is-file : (o : Option Record) (header : RecordHeader) → IsSomeAnd o (λ r. IsTrue (is_base r) × HasHeader header r) → IsSomeAnd o (λ r. IsTrue (is_base r))
+pub is-file : (o : Option Record) (header : RecordHeader) → IsSomeAnd o (λ r. IsTrue (is_base r) × HasHeader header r)
+    → IsSomeAnd o (λ r. IsTrue (is_base r))
 is-file None header there = there
 is-file (Some r) header there = there.0

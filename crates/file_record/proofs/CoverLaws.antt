@@ -1,5 +1,6 @@
 -- The records that a file's list names are those that hold its parts.
-use Rattle.std.proofs.Common.{◌≡◌, ◌==◌, ℕ, true, false, not, List, [], ◌∷◌, ◌++◌, map, Some, None, IsSomeAnd, refl, sym, ap, subst, inl, inr, ◌∙◌, arith}
+use Rattle.std.proofs.Common.{◌≡◌, ◌==◌, ℕ, true, false, not, List, [], ◌∷◌, ◌++◌, map, Some, None, IsSomeAnd, refl, sym, ap, subst, inl}
+use Rattle.std.proofs.Common.{inr, ◌∙◌, arith}
 use Rattle.std.specs.Prelude.{find, IfSome, IsTrue, unwrap_or}
 use Rattle.std.specs.List.{Contains, count_by}
 use Rattle.std.proofs.lemmas.Bool.{cases_Bool, eq-eqb, eqb-true}
@@ -17,7 +18,8 @@ use Rattle.volume_def.specs.ListsClause.{HasRightList, IsReadableList, IsRightLi
 use Rattle.volume_def.specs.Readable.{IsFile, IsReadableVolume}
 use Rattle.volume_def.specs.View.{VolumeView}
 use Rattle.list_laws.proofs.FindLaws.{count-none, count-some, find-fails, find-found, find-one}
-use Rattle.list_laws.proofs.MemberLaws.{Contains-filter, Contains-from_filter, Contains-from_map, Contains-head, Contains-map, Contains-only}
+use Rattle.list_laws.proofs.MemberLaws.{Contains-filter, Contains-from_filter, Contains-from_map}
+use Rattle.list_laws.proofs.MemberLaws.{Contains-head, Contains-map, Contains-only}
 use Rattle.volume_def.proofs.PartLaws.{Contains-HoldsPart, IsPart-Contains, NameHolders-view}
 use Rattle.volume_def.proofs.ReadableLaws.{readable-list}
 use Rattle.list_laws.proofs.SameItemsLaws.{SameItems-passing, SameItems-sym}
@@ -32,7 +34,8 @@ pub record Covers (view : VolumeView) (f : ℕ) (numbers : List ℕ) : Type 0 wh
   pub holders : (part : Part) → Contains (parts (records_of view) f) part → Contains numbers part.holder
 
 -- A file of a volume whose files can be read, by its base record and the list that it has.
-module _ (view : VolumeView) (f : ℕ) (readable : IsReadableVolume view) (file : IsFile view f) (base : IsRecordOf view f f) (block : List ℕ) (is : block ≡ opened_of (view.block f)) where
+module _ (view : VolumeView) (f : ℕ) (readable : IsReadableVolume view) (file : IsFile view f) (base : IsRecordOf view f f) (block : List ℕ)
+    (is : block ≡ opened_of (view.block f)) where
   there : (part : Part) → Contains (parts (records_of view) f) part → IsPart (records_of view) f part
   there part c = IsPart-Contains (records_of view) f part (NameHolders-view view) c
 
@@ -69,17 +72,24 @@ module _ (view : VolumeView) (f : ℕ) (readable : IsReadableVolume view) (file 
   right = readable-list view f readable file
 
   list-home : (part : Part) → Contains (parts (records_of view) f) part → is_list part ≡ true → part.holder ≡ f
-  list-home part c listed = (All-contains (λ p. IsTrue (is_list p) → IsRightList view f (parts (records_of view) f) p) _ part right.each c listed).home
+  list-home part c listed =
+      (All-contains (λ p. IsTrue (is_list p) → IsRightList view f (parts (records_of view) f) p) _ part right.each c listed).home
 
   -- without a list the file stands in one record
   pub Covers-alone : find (λ attribute. attribute.kind == ATTRIBUTE_LIST) (attributes block) ≡ None → Covers view f (f ∷ [])
   Covers-alone none =
       let few = find-fails (λ (attribute : Attribute). attribute.kind == ATTRIBUTE_LIST) (attributes block) none in
-      let no_list : count_by is_list (parts (records_of view) f) ≡ 0 = count-none is_list (parts (records_of view) f) (λ part c. elim (cases_Bool (is_list part)) [
+      let no_list : count_by is_list (parts (records_of view) f) ≡ 0 =
+      count-none is_list (parts (records_of view) f) (λ part c. elim (cases_Bool (is_list part)) [
         | inl t ↦
             let w = from-base part c (list-home part c t) in
             let kind : (w.0.kind == ATTRIBUTE_LIST) ≡ true = ap (λ (p : Part). p.kind == ATTRIBUTE_LIST) w.2 ∙ t in
-            absurd (omega (arith, count-some (λ (attribute : Attribute). attribute.kind == ATTRIBUTE_LIST) (attributes block) w.0 w.1 kind, few))
+            absurd
+            (omega (
+              arith,
+              count-some (λ (attribute : Attribute). attribute.kind == ATTRIBUTE_LIST) (attributes block) w.0 w.1 kind,
+              few,
+            ))
         | inr e ↦ e
       ]) in
       record {
@@ -92,12 +102,14 @@ module _ (view : VolumeView) (f : ℕ) (readable : IsReadableVolume view) (file 
       }
 
   -- with a list it stands in the records that the list names
-  module _ (told : IsTrue view.told) (list : Attribute) (found : find (λ attribute. attribute.kind == ATTRIBUTE_LIST) (attributes block) ≡ Some list) where
+  module _ (told : IsTrue view.told) (list : Attribute)
+      (found : find (λ attribute. attribute.kind == ATTRIBUTE_LIST) (attributes block) ≡ Some list) where
     its-place : Contains (attributes block) list × ((list.kind == ATTRIBUTE_LIST) ≡ true)
     its-place = find-found (λ (attribute : Attribute). attribute.kind == ATTRIBUTE_LIST) (attributes block) list found
 
     list-right : IsRightList view f (parts (records_of view) f) (part_of f list)
-    list-right = All-contains (λ p. IsTrue (is_list p) → IsRightList view f (parts (records_of view) f) p) _ (part_of f list) right.each (to-base list its-place.0) its-place.1
+    list-right = All-contains (λ p. IsTrue (is_list p) → IsRightList view f (parts (records_of view) f) p) _ (part_of f list) right.each
+        (to-base list its-place.0) its-place.1
 
     pub list-readable : IsReadableList view (part_of f list)
     list-readable = list-right.readable
@@ -109,9 +121,11 @@ module _ (view : VolumeView) (f : ℕ) (readable : IsReadableVolume view) (file 
         (find-one is_list (parts (records_of view) f) (part_of f list) right.few (to-base list its-place.0) its-place.1)
 
     -- each entry names a record of the file
-    entry-own : (entry : ListEntry) → Contains (list_entries (list_value view (part_of f list))) entry → IsRecordOf view f entry.holder.number
+    entry-own : (entry : ListEntry) → Contains (list_entries (list_value view (part_of f list))) entry
+        → IsRecordOf view f entry.holder.number
     entry-own entry c =
-        let s = SameItems-passing (λ (e : ListEntry). e.holder.number == entry.holder.number) _ (map (entry_in (records_of view)) (listed_parts (parts (records_of view) f))) entry
+        let s = SameItems-passing (λ (e : ListEntry). e.holder.number == entry.holder.number) _
+        (map (entry_in (records_of view)) (listed_parts (parts (records_of view) f))) entry
         (SameItems-sym _ _ list-right.each_once) c (eq-eqb _ _ refl) in
         let w = Contains-from_map (entry_in (records_of view)) (listed_parts (parts (records_of view) f)) s.0 s.1 in
         let part = Contains-from_filter (λ (p : Part). not (is_list p)) (parts (records_of view) f) w.0 w.1 in
@@ -127,9 +141,11 @@ module _ (view : VolumeView) (f : ℕ) (readable : IsReadableVolume view) (file 
     part-named : (part : Part) → Contains (parts (records_of view) f) part → is_list part ≡ false
         → Contains (named_in (list_value view (part_of f list))) part.holder
     part-named part c other =
-        let s = SameItems-passing (λ (e : ListEntry). e.holder.number == part.holder) (map (entry_in (records_of view)) (listed_parts (parts (records_of view) f))) _ (entry_in (records_of view) part)
+        let s = SameItems-passing (λ (e : ListEntry). e.holder.number == part.holder)
+        (map (entry_in (records_of view)) (listed_parts (parts (records_of view) f))) _ (entry_in (records_of view) part)
         list-right.each_once
-        (Contains-map (entry_in (records_of view)) _ part (Contains-filter (λ (p : Part). not (is_list p)) (parts (records_of view) f) part c (ap not other)))
+        (Contains-map (entry_in (records_of view)) _ part
+        (Contains-filter (λ (p : Part). not (is_list p)) (parts (records_of view) f) part c (ap not other)))
         (eq-eqb _ _ refl) in
         subst (Contains (named_in (list_value view (part_of f list)))) (eqb-true _ _ s.2)
         (Contains-map (λ (r : Reference). r.number) _ s.0.holder (Contains-map (λ (entry : ListEntry). entry.holder) _ s.0 s.1))
@@ -147,6 +163,7 @@ module _ (view : VolumeView) (f : ℕ) (readable : IsReadableVolume view) (file 
           ];
           holders = λ part c. elim (cases_Bool (is_list part)) [
             | inl t ↦ subst (Contains numbers) (sym (list-home part c t)) front
-            | inr other ↦ subst (λ xs. Contains xs part.holder) (sym same) (Contains-append_right (f ∷ []) _ part.holder (part-named part c other))
+            | inr other ↦ subst (λ xs. Contains xs part.holder) (sym same)
+                (Contains-append_right (f ∷ []) _ part.holder (part-named part c other))
           ];
         }

@@ -1,5 +1,6 @@
 -- A file that is made: its base record, and what is held of it.
-use Rattle.std.proofs.Common.{◌≡◌, ◌<◌, ◌%◌, ◌==◌, ℕ, Bool, true, false, List, [], ◌∷◌, ◌++◌, length, append-nil, map, refl, sym, ap, subst, ◌∙◌, arith}
+use Rattle.std.proofs.Common.{◌≡◌, ◌<◌, ◌%◌, ◌==◌, ℕ, Bool, true, false, List, [], ◌∷◌, ◌++◌, length, append-nil, map, refl, sym, ap}
+use Rattle.std.proofs.Common.{subst, ◌∙◌, arith}
 use Rattle.std.specs.Prelude.{IsTrue, unwrap_or}
 use Rattle.std.specs.List.{All, flat_map, insert, range_with_len}
 use Rattle.std.specs.Option.{option_map}
@@ -27,7 +28,8 @@ use Rattle.file_record.specs.Held.{AreRising, IsCurrentRecord, file_number, held
 use Rattle.file_record.specs.Records.{IsRecordOf}
 use Rattle.file_record.specs.Written.{IsWholeFile}
 use Rattle.file_record.proofs.EditLaws.{other-on}
-use Rattle.file_record.proofs.FreshRecords.{current-fresh, header-sealed, list-sealed, opened-sealed, own-fresh, record-now, shape-sealed, used-sealed, well-sealed}
+use Rattle.file_record.proofs.FreshRecords.{current-fresh, header-sealed, list-sealed, opened-sealed, own-fresh, record-now}
+use Rattle.file_record.proofs.FreshRecords.{shape-sealed, used-sealed, well-sealed}
 
 flags-used : (dir : Bool) → (flags_of dir % 2 == 1) ≡ true
 flags-used true = refl
@@ -72,7 +74,8 @@ piece-nil [] (x ∷ xs) after e = cc
 piece-nil (x ∷ xs) was after e = cc
 
 -- THE VOLUME, and what is held of it.
-module _ (old new : VolumeView) (n sequence : ℕ) (dir : Bool) (standard block stored : List ℕ) (made : IsNewBase n sequence dir standard block)
+module _ (old new : VolumeView) (n sequence : ℕ) (dir : Bool) (standard block stored : List ℕ)
+    (made : IsNewBase n sequence dir standard block)
     (seals : Seals block stored) (replaces : ReplacesBlock old new n stored) where
   pub creates-base : sequence ≡ sequence_at_first (stored_sequence (old.block n)) → CreatesBase old new n dir standard
   creates-base counted = record {
@@ -97,7 +100,8 @@ module _ (old new : VolumeView) (n sequence : ℕ) (dir : Bool) (standard block 
     here =
         ap (λ r. parts_in r n n) (record-now old new n block stored 1 told inside made.shape seals replaces made.in_use)
         ∙ parts_in-own n n (record_of n (opened_of stored))
-        (ap (λ (h : Header). unwrap_or (option_map (λ (b : Reference). b.number) h.base) n) (header-sealed block stored 1 made.shape seals) ∙ own-base)
+        (ap (λ (h : Header). unwrap_or (option_map (λ (b : Reference). b.number) h.base) n) (header-sealed block stored 1 made.shape seals)
+        ∙ own-base)
         ∙ ap (map (part_of n)) (list-sealed block stored 1 made.shape seals)
 
     -- all parts of the file stand there
@@ -106,15 +110,19 @@ module _ (old new : VolumeView) (n sequence : ℕ) (dir : Bool) (standard block 
     parts-base none =
         let was : ℕ → List Part = λ m. parts_in (record_on old m) m n in
         let now : ℕ → List Part = λ m. parts_in (record_on new m) m n in
-        let r : Replaces (flat_map was (range_with_len 0 old.layout.count)) (flat_map now (range_with_len 0 old.layout.count)) (was n) (now n) =
-        Replaces-range was now 0 old.layout.count n (omega arith) (omega arith) (λ m ne. ap (λ o. parts_in o m n) (other-on old new n m stored replaces ne)) in
+        let r : Replaces (flat_map was (range_with_len 0 old.layout.count))
+        (flat_map now (range_with_len 0 old.layout.count)) (was n) (now n) =
+        Replaces-range was now 0 old.layout.count n (omega arith) (omega arith)
+        (λ m ne. ap (λ o. parts_in o m n) (other-on old new n m stored replaces ne)) in
         let nothing : was n ≡ [] = piece-nil r.before (was n) r.after (sym none ∙ r.old_is) in
         ap (λ c. flat_map now (range_with_len 0 c)) (ap (λ (l : TableLayout). l.count) replaces.layout)
         ∙ Replaces-filled (flat_map was (range_with_len 0 old.layout.count)) (flat_map now (range_with_len 0 old.layout.count)) (now n) none
-        (subst (λ w. Replaces (flat_map was (range_with_len 0 old.layout.count)) (flat_map now (range_with_len 0 old.layout.count)) w (now n)) nothing r)
+        (subst (λ w. Replaces (flat_map was (range_with_len 0 old.layout.count))
+        (flat_map now (range_with_len 0 old.layout.count)) w (now n)) nothing r)
         ∙ here
 
-    pub whole-created : (file : FileParts) (one : Held) → held_of file ≡ one ∷ [] → one.number ≡ n → one.block ≡ block → file_number file ≡ n
+    pub whole-created : (file : FileParts) (one : Held) → held_of file ≡ one ∷ [] → one.number ≡ n
+        → one.block ≡ block → file_number file ≡ n
         → parts (records_of old) n ≡ [] → IsWholeFile new file
     whole-created file one held number is f none = record {
       parts = record {

@@ -42,7 +42,8 @@ pub record EditsHeld (o o' : List ℕ) : Type 0 where
 
 -- THE RECORD. `o` is held of it, and `o'` after the edit.
 module _ (old new : VolumeView) (f n : ℕ) (o o' stored : List ℕ) (count : ℕ) (told : IsTrue old.told) (own : IsRecordOf old f n)
-    (shape : HasShape o count) (current : bare_of o ≡ bare_of (opened_of (old.block n))) (edits : EditsHeld o o') (seals : Seals o' stored) (replaces : ReplacesBlock old new n stored) where
+    (shape : HasShape o count) (current : bare_of o ≡ bare_of (opened_of (old.block n))) (edits : EditsHeld o o') (seals : Seals o' stored)
+    (replaces : ReplacesBlock old new n stored) where
   abbrev was : List ℕ
   was = opened_of (old.block n)
 
@@ -92,14 +93,17 @@ module _ (old new : VolumeView) (f n : ℕ) (o o' stored : List ℕ) (count : �
   used : IsTrue (is_in_use (old.block n))
   used =
       let block = IsBlockOf-record old f n own in
-      sym (is_in_use-opened_of (old.block n) (omega (arith, header_failing-length was known.header, length-opened_of (old.block n)))) ∙ block.in_use
+      sym (is_in_use-opened_of (old.block n) (omega (arith, header_failing-length was known.header, length-opened_of (old.block n))))
+      ∙ block.in_use
 
   used' : IsTrue (is_in_use stored)
   used' =
       let block = IsBlockOf-record old f n own in
-      sym (is_in_use-opened_of stored (omega (arith, header_failing-length now well.shape.header, length-opened_of stored))) ∙ use' ∙ block.in_use
+      sym (is_in_use-opened_of stored (omega (arith, header_failing-length now well.shape.header, length-opened_of stored)))
+      ∙ use' ∙ block.in_use
 
-  pub edited : (gone came : List Attribute) → KeepsRecordHeader (header_of o) (header_of o') → Replaces (attributes o) (attributes o') gone came
+  pub edited : (gone came : List Attribute) → KeepsRecordHeader (header_of o) (header_of o')
+      → Replaces (attributes o) (attributes o') gone came
       → EditsBlock old new n stored gone came
   edited gone came keeps edit = record {
     told = told;
@@ -155,12 +159,14 @@ module _ (old new : VolumeView) (f n : ℕ) (o o' stored : List ℕ) (count : �
   parts-now = ap (map (part_of n)) (sym list') ∙ sym (ap (λ r. parts_in r n f) on-now ∙ parts_in-own n f (record_of n now) file-now)
 
 -- all other records stay
-pub other-on : (old new : VolumeView) (n m : ℕ) (stored : List ℕ) → ReplacesBlock old new n stored → m ≢ n → record_on new m ≡ record_on old m
+pub other-on : (old new : VolumeView) (n m : ℕ) (stored : List ℕ) → ReplacesBlock old new n stored → m ≢ n
+    → record_on new m ≡ record_on old m
 other-on old new n m stored replaces ne =
     ap (λ (l : TableLayout). cond (ltb m l.count) (record_in m (new.block m)) None) replaces.layout
     ∙ ap (λ b. cond (ltb m old.layout.count) (record_in m b) None) (replaces.blocks m ne)
 
-pub other-own : (old new : VolumeView) (f n m : ℕ) (stored : List ℕ) → ReplacesBlock old new n stored → m ≢ n → IsRecordOf old f m → IsRecordOf new f m
+pub other-own : (old new : VolumeView) (f n m : ℕ) (stored : List ℕ) → ReplacesBlock old new n stored → m ≢ n
+    → IsRecordOf old f m → IsRecordOf new f m
 other-own old new f n m stored replaces ne own = record {
   belongs = subst (λ o. IsSomeAnd o (λ r. file_of m r ≡ f)) (sym (other-on old new n m stored replaces ne)) own.belongs;
   well_formed = subst IsWellFormed (sym (replaces.blocks m ne)) own.well_formed;
@@ -176,7 +182,8 @@ number-inside view file k one whole is inside =
 -- THE FILE. Record k of those that are held was edited.
 module _ (old new : VolumeView) (file : FileParts) (k : ℕ) (one now : Held) (stored : List ℕ) (told : IsTrue old.told)
     (whole : IsWholeFile old file) (is : one ≡ get_or (held_of file) k one) (inside : k < length (held_of file))
-    (same : now.number ≡ one.number) (edits : EditsHeld one.block now.block) (seals : Seals now.block stored) (replaces : ReplacesBlock old new one.number stored) where
+    (same : now.number ≡ one.number) (edits : EditsHeld one.block now.block) (seals : Seals now.block stored)
+    (replaces : ReplacesBlock old new one.number stored) where
   abbrev f : ℕ
   f = file_number file
 
@@ -190,9 +197,11 @@ module _ (old new : VolumeView) (file : FileParts) (k : ℕ) (one now : Held) (s
       → Replaces (attributes one.block) (attributes now.block) gone came → EditsBlock old new one.number stored gone came
   part-edited = edited old new f one.number one.block now.block stored one.count told one-own one.shape one-current edits seals replaces
 
-  pub base-counted : (links : ℕ) → header_of now.block ≡ with_links (header_of one.block) links → attributes now.block ≡ attributes one.block
+  pub base-counted : (links : ℕ) → header_of now.block ≡ with_links (header_of one.block) links
+      → attributes now.block ≡ attributes one.block
       → CountsLinks old new one.number stored links
-  base-counted = links-counted old new f one.number one.block now.block stored one.count told one-own one.shape one-current edits seals replaces
+  base-counted = links-counted old new f one.number one.block now.block stored one.count told one-own one.shape
+      one-current edits seals replaces
 
   -- what was held of it, and what is, are what the volume has
   pub list-was : attributes one.block ≡ attributes (opened_of (old.block one.number))
@@ -208,7 +217,8 @@ module _ (old new : VolumeView) (file : FileParts) (k : ℕ) (one now : Held) (s
   header-is = head' old new f one.number one.block now.block stored one.count told one-own one.shape one-current edits seals replaces
 
   pub header-stays : header_of now.block ≡ header_of one.block → header_of (opened_of stored) ≡ header_of (opened_of (old.block one.number))
-  header-stays = header-now old new f one.number one.block now.block stored one.count told one-own one.shape one-current edits seals replaces
+  header-stays = header-now old new f one.number one.block now.block stored one.count told one-own one.shape
+      one-current edits seals replaces
 
   differ : (j : ℕ) (e : Held) → j < length (held_of file) → j ≢ k → (get_or (held_of file) j e).number ≢ one.number
   differ j e l ne equal = elim (cases_lt j k) [
@@ -234,11 +244,14 @@ module _ (old new : VolumeView) (file : FileParts) (k : ℕ) (one now : Held) (s
         subst P (sym (get_or-set_other (held_of file) k j now e ne)) (others j e (omega (arith, l, length-set (held_of file) k now)) ne)
   ]
 
-  number-set : (j : ℕ) (e : Held) → j < length (held_of file) → (get_or (set (held_of file) k now) j e).number ≡ (get_or (held_of file) j e).number
+  number-set : (j : ℕ) (e : Held) → j < length (held_of file)
+      → (get_or (set (held_of file) k now) j e).number ≡ (get_or (held_of file) j e).number
   number-set j e l = elim (cases_eq j k) [
     | inl same_place ↦
-        ap (λ (h : Held). h.number) (ap (λ q. get_or (set (held_of file) k now) q e) same_place ∙ get_or-set_same (held_of file) k now e inside)
-        ∙ same ∙ ap (λ (h : Held). h.number) (is ∙ get_or_default (held_of file) k one e inside ∙ ap (λ q. get_or (held_of file) q e) (sym same_place))
+        ap (λ (h : Held). h.number) (ap (λ q. get_or (set (held_of file) k now) q e) same_place
+        ∙ get_or-set_same (held_of file) k now e inside)
+        ∙ same ∙ ap (λ (h : Held). h.number) (is ∙ get_or_default (held_of file) k one e inside
+        ∙ ap (λ q. get_or (held_of file) q e) (sym same_place))
     | inr ne ↦ ap (λ (h : Held). h.number) (get_or-set_other (held_of file) k j now e ne)
   ]
 
@@ -257,7 +270,8 @@ module _ (old new : VolumeView) (file : FileParts) (k : ℕ) (one now : Held) (s
 
   parts-told : flat_map parts_of (set (held_of file) k now) ≡ parts (records_of new) f
   parts-told =
-      parts-set (held_of file) k now one (records_of old) (records_of new) f inside whole.rising one.number (ap (λ (h : Held). h.number) (sym is))
+      parts-set (held_of file) k now one (records_of old) (records_of new) f inside whole.rising one.number
+      (ap (λ (h : Held). h.number) (sym is))
       (IsRecordOf-inside old f one.number one-own) (NameHolders-view old) (ap (λ (l : TableLayout). l.count) replaces.layout)
       (λ m ne. other-on old new one.number m stored replaces ne)
       (ap (λ m. map (part_of m) (attributes now.block)) same
@@ -272,7 +286,8 @@ module _ (old new : VolumeView) (file : FileParts) (k : ℕ) (one now : Held) (s
       let q = number-set b e (omega (arith, h, long)) in
       omega (arith, up, p, q)
 
-  pub whole-now : (file' : FileParts) → file_number file' ≡ file_number file → held_of file' ≡ set (held_of file) k now → IsWholeFile new file'
+  pub whole-now : (file' : FileParts) → file_number file' ≡ file_number file
+      → held_of file' ≡ set (held_of file) k now → IsWholeFile new file'
   whole-now file' number held' = record {
     parts = record {
       current = subst (All (IsCurrentRecord new)) (sym held') current-set;

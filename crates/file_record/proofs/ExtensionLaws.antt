@@ -1,5 +1,6 @@
 -- An extension record that comes to a file, and one that goes.
-use Rattle.std.proofs.Common.{◌≡◌, ◌≢◌, ◌+◌, ◌*◌, ◌%◌, ◌^◌, ◌<◌, ◌≤◌, ℕ, zero, suc, false, cond, List, [], ◌∷◌, length, get_or, slice_get, map, None, Some, Option, Result, Ok, Err, IsSomeAnd, refl, sym, ap, subst, ◌∙◌, arith}
+use Rattle.std.proofs.Common.{◌≡◌, ◌≢◌, ◌+◌, ◌*◌, ◌%◌, ◌^◌, ◌<◌, ◌≤◌, ℕ, zero, suc, false, cond, List, [], ◌∷◌, length, get_or, slice_get}
+use Rattle.std.proofs.Common.{map, None, Some, Option, Result, Ok, Err, IsSomeAnd, refl, sym, ap, subst, ◌∙◌, arith}
 use Rattle.std.specs.Prelude.{IsTrue, OnErr, is_none, unwrap_or}
 use Rattle.std.specs.List.{insert, remove}
 use Rattle.std.specs.Option.{option_map}
@@ -32,7 +33,8 @@ use Rattle.file_record.specs.Held.{RecordHeld, file_number, held_of}
 use Rattle.file_record.specs.Records.{IsRecordOf}
 use Rattle.file_record.specs.Written.{IsWholeFile}
 use Rattle.file_record.proofs.EditLaws.{number-inside}
-use Rattle.file_record.proofs.FreshRecords.{current-fresh, header-sealed, list-sealed, own-fresh, parts_in-empty, record-gone, record-now, used-sealed, well-sealed}
+use Rattle.file_record.proofs.FreshRecords.{current-fresh, header-sealed, list-sealed, own-fresh, parts_in-empty, record-gone}
+use Rattle.file_record.proofs.FreshRecords.{record-now, used-sealed, well-sealed}
 use Rattle.file_record.proofs.HeldInserts.{whole-more}
 use Rattle.file_record.proofs.HeldRemovals.{whole-less}
 use Rattle.file_record.proofs.RecordLaws.{IsBlockOf-record, IsRecordOf-at, IsRecordOf-inside, record_at-in_use}
@@ -71,13 +73,16 @@ module _ (view : VolumeView) (file : FileParts) (one : Held) (own : IsRecordOf v
   array = subst (HasShape one.block) (sym (length-attributes one.block one.count one.shape)) one.shape
 
   pub header-held : header_of one.block ≡ header_of (opened_of (view.block one.number))
-  header-held = header_of-same (opened_of (view.block one.number)) one.block _ known (bare-outside (opened_of (view.block one.number)) one.block _ _ known array current)
+  header-held = header_of-same (opened_of (view.block one.number)) one.block _ known
+      (bare-outside (opened_of (view.block one.number)) one.block _ _ known array current)
 
   pub list-held : attributes one.block ≡ attributes (opened_of (view.block one.number))
-  list-held = attributes-same (opened_of (view.block one.number)) one.block _ known (bare-outside (opened_of (view.block one.number)) one.block _ _ known array current)
+  list-held = attributes-same (opened_of (view.block one.number)) one.block _ known
+      (bare-outside (opened_of (view.block one.number)) one.block _ _ known array current)
 
 -- THE REFERENCE to the base record that is held names it.
-pub base-named : (view : VolumeView) (file : FileParts) (value : ℕ) → IsWholeFile view file → IsBaseReference file value → file_number file < 2 ^ 48
+pub base-named : (view : VolumeView) (file : FileParts) (value : ℕ) → IsWholeFile view file → IsBaseReference file value
+    → file_number file < 2 ^ 48
     → NamesOne (reference_of view (file_number file)) → base_in value ≡ Some (reference_of view (file_number file))
 unfolding header_of
 base-named view file value whole base small some =
@@ -86,9 +91,11 @@ base-named view file value whole base small some =
     let own : IsRecordOf view (file_number file) one.number =
     subst (λ (h : Held). IsRecordOf view (file_number file) h.number) (sym there.1) (whole.own base.place one base.inside) in
     let current : bare_of one.block ≡ bare_of (opened_of (view.block one.number)) =
-    subst (λ (h : Held). bare_of h.block ≡ bare_of (opened_of (view.block h.number))) (sym there.1) (whole.parts.current base.place one base.inside) in
+    subst (λ (h : Held). bare_of h.block ≡ bare_of (opened_of (view.block h.number))) (sym there.1)
+    (whole.parts.current base.place one base.inside) in
     let number : one.number ≡ file_number file = ap (λ (h : Held). h.number) there.1 ∙ base.number one in
-    let sequence : (header_of (get_or (held_of file) base.place one).block).sequence ≡ sequence_of (opened_of (view.block (file_number file))) =
+    let sequence : (header_of (get_or (held_of file) base.place one).block).sequence
+    ≡ sequence_of (opened_of (view.block (file_number file))) =
     ap (λ (h : Held). (header_of h.block).sequence) (sym there.1) ∙ ap (λ (h : Header). h.sequence) (header-held view file one own current)
     ∙ ap (λ m. sequence_of (opened_of (view.block m))) number in
     base_in-value value (file_number file) (sequence_of (opened_of (view.block (file_number file))))
@@ -123,7 +130,8 @@ module _ (old new : VolumeView) (n sequence value : ℕ) (base : Reference) (blo
         ∙ ap (map (part_of n)) (list-sealed block stored 0 laid.shape seals ∙ laid.empty))
 
     -- what is held then is the whole file
-    pub whole-taken : (file file' : FileParts) (k : ℕ) (now : Held) → IsWholeFile old file → file_number file ≡ base.number → k ≤ length (held_of file)
+    pub whole-taken : (file file' : FileParts) (k : ℕ) (now : Held) → IsWholeFile old file → file_number file ≡ base.number
+        → k ≤ length (held_of file)
         → now.number ≡ n → now.block ≡ block → ((j : ℕ) (d : Held) → j < k → (get_or (held_of file) j d).number ≤ n)
         → ((d : Held) → k < length (held_of file) → n < (get_or (held_of file) k d).number) → record_on old n ≡ None
         → file_number file' ≡ file_number file → held_of file' ≡ insert (held_of file) k now → IsWholeFile new file'
@@ -183,11 +191,13 @@ whole-freed old new file file' k one told whole inside is none frees same held' 
     let current : bare_of one.block ≡ bare_of (opened_of (old.block one.number)) =
     subst (λ (h : Held). bare_of h.block ≡ bare_of (opened_of (old.block h.number))) (sym is) (whole.parts.current k one inside) in
     let place = place-shape (opened_of (old.block one.number)) own.well_formed.shape.header in
-    whole-less old new file k one.number one frees.stored whole inside is refl frees.replaces none (partless-held old file one own current none)
+    whole-less old new file k one.number one frees.stored whole inside is refl frees.replaces none
+    (partless-held old file one own current none)
     (record-gone new one.number frees.stored (frees.replaces.block told) (frees.idle told (omega (arith, place)))) file' same held'
 
 -- .. of another number than the file's: it is an extension record
-extends : (f n : ℕ) (base : Option Reference) → unwrap_or (option_map (λ (b : Reference). b.number) base) n ≡ f → n ≢ f → is_none base ≡ false
+extends : (f n : ℕ) (base : Option Reference) → unwrap_or (option_map (λ (b : Reference). b.number) base) n ≡ f
+    → n ≢ f → is_none base ≡ false
 extends f n None file apart = absurd (apart file)
 extends f n (Some b) file apart = refl
 

@@ -1,5 +1,6 @@
 -- A record that was sealed and staged in a block that was free: what the volume has there.
-use Rattle.std.proofs.Common.{◌≡◌, ◌<◌, ℕ, false, cond, ltb, List, [], None, Some, Option, IsSomeAnd, inl, inr, refl, sym, ap, subst, ◌∙◌, arith}
+use Rattle.std.proofs.Common.{◌≡◌, ◌<◌, ℕ, false, cond, ltb, List, [], None, Some, Option, IsSomeAnd, inl, inr, refl, sym, ap}
+use Rattle.std.proofs.Common.{subst, ◌∙◌, arith}
 use Rattle.std.specs.Prelude.{IsTrue, unwrap_or}
 use Rattle.std.specs.List.{flat_map, range_with_len}
 use Rattle.std.specs.Option.{option_map}
@@ -49,7 +50,8 @@ module _ (block stored : List ℕ) (count : ℕ) (shape : HasShape block count) 
 
   pub used-sealed : is_in_use stored ≡ is_in_use block
   used-sealed =
-      sym (is_in_use-opened_of stored (omega (arith, header_failing-length (opened_of stored) shape-sealed.header, length-opened_of stored)))
+      sym (is_in_use-opened_of stored
+      (omega (arith, header_failing-length (opened_of stored) shape-sealed.header, length-opened_of stored)))
       ∙ opened-sealed
 
   pub bare-sealed : bare_of block ≡ bare_of (opened_of stored)
@@ -57,7 +59,8 @@ module _ (block stored : List ℕ) (count : ℕ) (shape : HasShape block count) 
 
 -- THE VOLUME. `block` was sealed and staged in place of block n.
 module _ (old new : VolumeView) (n : ℕ) (block stored : List ℕ) (count : ℕ) (told : IsTrue old.told) (inside : n < old.layout.count)
-    (shape : HasShape block count) (seals : Seals block stored) (replaces : ReplacesBlock old new n stored) (used : IsTrue (is_in_use block)) where
+    (shape : HasShape block count) (seals : Seals block stored) (replaces : ReplacesBlock old new n stored)
+    (used : IsTrue (is_in_use block)) where
   block-now : new.block n ≡ stored
   block-now = replaces.block told
 
@@ -70,7 +73,8 @@ module _ (old new : VolumeView) (n : ℕ) (block stored : List ℕ) (count : ℕ
   pub own-fresh : (f : ℕ) → file_of n (record_of n block) ≡ f → IsRecordOf new f n
   own-fresh f is = record {
     belongs = subst (λ o. IsSomeAnd o (λ r. file_of n r ≡ f)) (sym record-now)
-        (ap (λ (h : Header). unwrap_or (option_map (λ (b : Reference). b.number) h.base) n) (header-sealed block stored count shape seals) ∙ is);
+        (ap (λ (h : Header). unwrap_or (option_map (λ (b : Reference). b.number) h.base) n) (header-sealed block stored count shape seals)
+        ∙ is);
     well_formed = subst IsWellFormed (sym block-now) (well-sealed block stored count shape seals);
   }
 

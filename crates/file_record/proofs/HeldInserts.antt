@@ -1,5 +1,6 @@
 -- One record more is held, that has no attributes: what is held is the whole file still.
-use Rattle.std.proofs.Common.{◌≡◌, ◌≢◌, ◌+◌, ◌-◌, ◌<◌, ◌≤◌, ℕ, List, [], ◌∷◌, length, get_or, append-nil, map, None, Some, IsSomeAnd, inl, inr, sym, ap, subst, ◌∙◌, arith}
+use Rattle.std.proofs.Common.{◌≡◌, ◌≢◌, ◌+◌, ◌-◌, ◌<◌, ◌≤◌, ℕ, List, [], ◌∷◌, length, get_or, append-nil, map, None, Some, IsSomeAnd, inl}
+use Rattle.std.proofs.Common.{inr, sym, ap, subst, ◌∙◌, arith}
 use Rattle.std.specs.List.{All, flat_map, insert}
 use Rattle.std.proofs.lemmas.Bool.{cases_eq, cases_lt}
 use Rattle.std.proofs.lemmas.List.Edits.{get_or-insert_above, get_or-insert_at, get_or-insert_below, length-insert}
@@ -44,7 +45,8 @@ module _ (old new : VolumeView) (file : FileParts) (k n : ℕ) (now : Held) (sto
   apart : (j : ℕ) (e : Held) → j < length held → (get_or held j e).number ≢ n
   apart j e l equal =
       let o = whole.own j e l in
-      let at : IsSomeAnd (record_on old n) (λ r. file_of n r ≡ f) = subst (λ m. IsSomeAnd (record_on old m) (λ r. file_of m r ≡ f)) equal o.belongs in
+      let at : IsSomeAnd (record_on old n) (λ r. file_of n r ≡ f) =
+      subst (λ m. IsSomeAnd (record_on old m) (λ r. file_of m r ≡ f)) equal o.belongs in
       subst (λ o. IsSomeAnd o (λ r. file_of n r ≡ f)) free at
 
   -- those from its place on have higher ones
@@ -87,12 +89,28 @@ module _ (old new : VolumeView) (file : FileParts) (k n : ℕ) (now : Held) (sto
       | inl bl ↦ omega (arith, whole.rising a b e l (omega arith), number-below a e al, number-below b e bl)
       | inr bh ↦ elim (cases_eq b k) [
         | inl same ↦ omega (arith, below a e al, number-below a e al, number-here b e same)
-        | inr ne ↦ omega (arith, below a e al, above (b - 1) e (omega arith) (omega (arith, h, long)), number-below a e al, number-above b e (omega arith))
+        | inr ne ↦ omega (
+          arith,
+          below a e al,
+          above (b - 1) e (omega arith) (omega (arith, h, long)),
+          number-below a e al,
+          number-above b e (omega arith),
+        )
       ]
     ]
     | inr ah ↦ elim (cases_eq a k) [
-      | inl same ↦ omega (arith, above (b - 1) e (omega arith) (omega (arith, h, long)), number-here a e same, number-above b e (omega arith))
-      | inr ne ↦ omega (arith, whole.rising (a - 1) (b - 1) e (omega arith) (omega (arith, h, long)), number-above a e (omega arith), number-above b e (omega arith))
+      | inl same ↦ omega (
+        arith,
+        above (b - 1) e (omega arith) (omega (arith, h, long)),
+        number-here a e same,
+        number-above b e (omega arith),
+      )
+      | inr ne ↦ omega (
+        arith,
+        whole.rising (a - 1) (b - 1) e (omega arith) (omega (arith, h, long)),
+        number-above a e (omega arith),
+        number-above b e (omega arith),
+      )
     ]
   ]
 
@@ -101,14 +119,16 @@ module _ (old new : VolumeView) (file : FileParts) (k n : ℕ) (now : Held) (sto
       Replaces-itself (flat_map parts_of held) (flat_map parts_of more) [] (flat_map parts_of (now ∷ [])) (sym (bare-parts now none))
       (Replaces-flat_map parts_of held more [] (now ∷ []) (Replaces-insert held k now))
       ∙ whole.parts.parts
-      ∙ sym (parts-agree old new n f stored replaces (parts_in-empty (record_on old n) n f (λ r is. let e : None ≡ Some r = sym free ∙ is in cc)) partless)
+      ∙ sym (parts-agree old new n f stored replaces
+      (parts_in-empty (record_on old n) n f (λ r is. let e : None ≡ Some r = sym free ∙ is in cc)) partless)
 
   pub whole-more : (file' : FileParts) → file_number file' ≡ file_number file → held_of file' ≡ more → IsWholeFile new file'
   whole-more file' same held' = record {
     parts = record {
       current = subst (All (IsCurrentRecord new)) (sym held')
           (each (IsCurrentRecord new) (subst (λ m. bare_of now.block ≡ bare_of (opened_of (new.block m))) (sym number) current)
-          (λ j e l. whole.parts.current j e l ∙ ap (λ b. bare_of (opened_of b)) (sym (replaces.blocks (get_or held j e).number (apart j e l)))));
+          (λ j e l. whole.parts.current j e l
+          ∙ ap (λ b. bare_of (opened_of b)) (sym (replaces.blocks (get_or held j e).number (apart j e l)))));
       parts = ap (flat_map parts_of) held' ∙ parts-more ∙ ap (parts (records_of new)) (sym same);
     };
     own = subst (λ m. All (λ h. IsRecordOf new m h.number) (held_of file')) (sym same)

@@ -1,7 +1,9 @@
 -- The parts of a file, where one of its records is another: those that are held and those that the volume tells are as many in front of it.
-use Rattle.std.proofs.Common.{◌≡◌, ◌≢◌, ◌+◌, ◌-◌, ◌<◌, ◌≤◌, nat_lt, ℕ, Bool, true, false, List, [], ◌∷◌, ◌++◌, length, get_or, set, take, drop, zero, suc, append-nil, inl, inr, refl, sym, ap, subst, ◌∙◌, arith, Option, Some, None}
+use Rattle.std.proofs.Common.{◌≡◌, ◌≢◌, ◌+◌, ◌-◌, ◌<◌, ◌≤◌, nat_lt, ℕ, Bool, true, false, List, [], ◌∷◌, ◌++◌, length, get_or, set, take}
+use Rattle.std.proofs.Common.{drop, zero, suc, append-nil, inl, inr, refl, sym, ap, subst, ◌∙◌, arith, Option, Some, None}
 use Rattle.std.proofs.lemmas.Bool.{cases_eq, lt-ltb, le-ltb}
-use Rattle.std.proofs.lemmas.List.{get_or-drop, get_or-take, get_or_default, length-drop, length-take-le, drop-set, set-get_or, take-append-drop, take-set}
+use Rattle.std.proofs.lemmas.List.{get_or-drop, get_or-take, get_or_default, length-drop, length-take-le, drop-set}
+use Rattle.std.proofs.lemmas.List.{set-get_or, take-append-drop, take-set}
 use Rattle.std.proofs.lemmas.List.Concat.{flat_map-append}
 use Rattle.std.proofs.lemmas.List.Elements.{All-append, All-contains, All-map, filter-append}
 use Rattle.std.specs.List.{All, filter, flat_map, range_with_len}
@@ -51,7 +53,8 @@ front-of n all front here back c =
 back-of : (n : ℕ) (all front here back : List Part) → IsCutAt n all front here back → filter (behind n) all ≡ back
 back-of n all front here back c =
     ap (filter (behind n)) c.whole ∙ three (behind n) front here back
-    ∙ ap (λ xs. xs ++ (filter (behind n) here ++ filter (behind n) back)) (fails (behind n) front (λ k d l. let e = c.low k d l in le-ltb _ _ (omega (arith, e))))
+    ∙ ap (λ xs. xs ++ (filter (behind n) here ++ filter (behind n) back))
+    (fails (behind n) front (λ k d l. let e = c.low k d l in le-ltb _ _ (omega (arith, e))))
     ∙ ap (λ xs. xs ++ filter (behind n) back) (fails (behind n) here (λ k d l. let e = c.own k d l in le-ltb _ _ (omega (arith, e))))
     ∙ passes (behind n) back (λ k d l. lt-ltb _ _ (c.high k d l))
 
@@ -81,7 +84,8 @@ set-split xs k y l =
 split-held : {A : Type 0} (xs : List A) (k : ℕ) (d : A) → k < length xs → xs ≡ take k xs ++ (get_or xs k d ∷ drop (k + 1) xs)
 split-held xs k d l = sym (set-get_or xs k d) ∙ set-split xs k (get_or xs k d) l
 
-flat-split : (a : List Held) (one : Held) (b : List Held) → flat_map parts_of (a ++ (one ∷ b)) ≡ flat_map parts_of a ++ (parts_of one ++ flat_map parts_of b)
+flat-split : (a : List Held) (one : Held) (b : List Held)
+    → flat_map parts_of (a ++ (one ∷ b)) ≡ flat_map parts_of a ++ (parts_of one ++ flat_map parts_of b)
 flat-split a one b = flat_map-append parts_of a (one ∷ b)
 
 module _ (held : List Held) (k : ℕ) (d : Held) (inside : k < length held) (rising : AreRising held) where
@@ -103,7 +107,8 @@ module _ (held : List Held) (k : ℕ) (d : Held) (inside : k < length held) (ris
       let up = rising k (k + 1 + i) d (omega arith) here in
       subst (λ (h : Held). one.number < h.number) (get_or_default held (k + 1 + i) d e here ∙ sym (get_or-drop (k + 1) held i e)) up
 
-  cut-held : IsCutAt one.number (flat_map parts_of held) (flat_map parts_of (take k held)) (parts_of one) (flat_map parts_of (drop (k + 1) held))
+  cut-held : IsCutAt one.number (flat_map parts_of held) (flat_map parts_of (take k held)) (parts_of one)
+      (flat_map parts_of (drop (k + 1) held))
   cut-held = record {
     whole = ap (flat_map parts_of) (split-held held k d inside) ∙ flat-split (take k held) one (drop (k + 1) held);
     low = holders-held (λ m. m < one.number) (take k held) lower;
@@ -127,7 +132,8 @@ holders-range : (P : ℕ → Type 0) (records : Records) (f from n : ℕ) → Na
     → All (λ p. P p.holder) (flat_map (λ m. parts_in (records.record_at m) m f) (range_with_len from n))
 holders-range P records f from zero names h = λ k d l. absurd (omega arith)
 holders-range P records f from (suc n) names h =
-    All-append (λ p. P p.holder) (parts_in (records.record_at from) from f) (flat_map (λ m. parts_in (records.record_at m) m f) (range_with_len (from + 1) n))
+    All-append (λ p. P p.holder) (parts_in (records.record_at from) from f)
+    (flat_map (λ m. parts_in (records.record_at m) m f) (range_with_len (from + 1) n))
     (holders-in P records from f (records.record_at from) names refl (h from (omega arith) (omega arith)))
     (holders-range P records f (from + 1) n names (λ m a b. h m (omega arith) (omega arith)))
 
@@ -181,7 +187,8 @@ pub parts-set : (held : List Held) (k : ℕ) (now d : Held) (old new : Records) 
 parts-set held k now d old new f inside rising n is small names count others here all =
     let a : IsCutAt n (parts old f) (flat_map parts_of (take k held)) (parts_of (get_or held k d)) (flat_map parts_of (drop (k + 1) held)) =
     subst (λ xs. IsCutAt n xs (flat_map parts_of (take k held)) (parts_of (get_or held k d)) (flat_map parts_of (drop (k + 1) held))) all
-    (subst (λ m. IsCutAt m (flat_map parts_of held) (flat_map parts_of (take k held)) (parts_of (get_or held k d)) (flat_map parts_of (drop (k + 1) held))) is
+    (subst (λ m. IsCutAt m (flat_map parts_of held) (flat_map parts_of (take k held)) (parts_of (get_or held k d))
+    (flat_map parts_of (drop (k + 1) held))) is
     (cut-held held k d inside rising)) in
     let b = cut-records old n f small names in
     let same = cut-once n (parts old f) _ _ _ _ _ _ b a in

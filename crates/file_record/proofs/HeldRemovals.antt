@@ -1,5 +1,6 @@
 -- One record less is held, that had no attributes: what is held is the whole file still.
-use Rattle.std.proofs.Common.{◌≡◌, ◌≢◌, ◌+◌, ◌<◌, ◌≤◌, ℕ, suc, List, [], ◌∷◌, ◌++◌, length, get_or, take, drop, None, Some, inl, inr, refl, sym, ap, subst, ◌∙◌, arith}
+use Rattle.std.proofs.Common.{◌≡◌, ◌≢◌, ◌+◌, ◌<◌, ◌≤◌, ℕ, suc, List, [], ◌∷◌, ◌++◌, length, get_or, take, drop, None, Some, inl, inr, refl}
+use Rattle.std.proofs.Common.{sym, ap, subst, ◌∙◌, arith}
 use Rattle.std.specs.List.{All, flat_map, remove}
 use Rattle.std.proofs.lemmas.Bool.{cases_lt}
 use Rattle.std.proofs.lemmas.List.{get_or_default, take-append-drop}
@@ -49,7 +50,8 @@ module _ (old new : VolumeView) (file : FileParts) (k n : ℕ) (one : Held) (sto
   each : (P : Held → Type 0) → ((j : ℕ) (e : Held) → j < length held → j ≢ k → P (get_or held j e)) → All P less
   each P others j e l = elim (cases_lt j k) [
     | inl low ↦ subst P (sym (get_or-remove_below held k e j low inside)) (others j e (omega arith) (λ same. absurd (omega arith)))
-    | inr high ↦ subst P (sym (get_or-remove_above held k e j high inside)) (others (j + 1) e (omega (arith, long)) (λ same. absurd (omega arith)))
+    | inr high ↦ subst P (sym (get_or-remove_above held k e j high inside))
+        (others (j + 1) e (omega (arith, long)) (λ same. absurd (omega arith)))
   ]
 
   number-below : (j : ℕ) (e : Held) → j < k → (get_or less j e).number ≡ (get_or held j e).number
@@ -64,7 +66,12 @@ module _ (old new : VolumeView) (file : FileParts) (k n : ℕ) (one : Held) (sto
       | inl bl ↦ omega (arith, whole.rising a b e l (omega arith), number-below a e al, number-below b e bl)
       | inr bh ↦ omega (arith, whole.rising a (b + 1) e (omega arith) (omega (arith, h, long)), number-below a e al, number-above b e bh)
     ]
-    | inr ah ↦ omega (arith, whole.rising (a + 1) (b + 1) e (omega arith) (omega (arith, h, long)), number-above a e ah, number-above b e (omega arith))
+    | inr ah ↦ omega (
+      arith,
+      whole.rising (a + 1) (b + 1) e (omega arith) (omega (arith, h, long)),
+      number-above a e ah,
+      number-above b e (omega arith),
+    )
   ]
 
   -- the record was taken out
@@ -82,14 +89,16 @@ module _ (old new : VolumeView) (file : FileParts) (k n : ℕ) (one : Held) (sto
       Replaces-itself (flat_map parts_of held) (flat_map parts_of less) (flat_map parts_of (one ∷ [])) [] (bare-parts one none)
       (Replaces-flat_map parts_of held less (one ∷ []) [] taken-out)
       ∙ whole.parts.parts
-      ∙ sym (parts-agree old new n f stored replaces partless (parts_in-empty (record_on new n) n f (λ r is. let e : None ≡ Some r = sym gone ∙ is in cc)))
+      ∙ sym (parts-agree old new n f stored replaces partless
+      (parts_in-empty (record_on new n) n f (λ r is. let e : None ≡ Some r = sym gone ∙ is in cc)))
 
   pub whole-less : (file' : FileParts) → file_number file' ≡ file_number file → held_of file' ≡ less → IsWholeFile new file'
   whole-less file' same held' = record {
     parts = record {
       current = subst (All (IsCurrentRecord new)) (sym held')
           (each (IsCurrentRecord new)
-          (λ j e l ne. whole.parts.current j e l ∙ ap (λ b. bare_of (opened_of b)) (sym (replaces.blocks (get_or held j e).number (apart j e l ne)))));
+          (λ j e l ne. whole.parts.current j e l
+          ∙ ap (λ b. bare_of (opened_of b)) (sym (replaces.blocks (get_or held j e).number (apart j e l ne)))));
       parts = ap (flat_map parts_of) held' ∙ parts-less ∙ ap (parts (records_of new)) (sym same);
     };
     own = subst (λ m. All (λ h. IsRecordOf new m h.number) (held_of file')) (sym same)

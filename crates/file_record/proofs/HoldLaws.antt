@@ -1,5 +1,6 @@
 -- What is held, record by record.
-use Rattle.std.proofs.Common.{◌≡◌, ◌<◌, ◌≤◌, ◌+◌, ℕ, List, [], ◌∷◌, ◌++◌, length, get_or, take, map, Option, Some, None, refl, sym, ap, subst, ◌∙◌, arith, append-nil, length-append}
+use Rattle.std.proofs.Common.{◌≡◌, ◌<◌, ◌≤◌, ◌+◌, ℕ, List, [], ◌∷◌, ◌++◌, length, get_or, take, map, Option, Some, None, refl, sym, ap}
+use Rattle.std.proofs.Common.{subst, ◌∙◌, arith, append-nil, length-append}
 use Rattle.std.specs.Prelude.{IfNone, IfSome, IsTrue}
 use Rattle.std.specs.List.{All, AllPairs, Contains, flat_map}
 use Rattle.std.specs.Option.{option_to_list}
@@ -31,7 +32,8 @@ holds-found view f n old new one added number own = record {
 }
 
 -- one that is none of the file does not
-pub holds-none : (view : VolumeView) (f n : ℕ) (held : List Held) → (IsTrue view.told → ¬ (IsRecordOf view f n)) → HoldsNext view f n held held
+pub holds-none : (view : VolumeView) (f n : ℕ) (held : List Held) → (IsTrue view.told → ¬ (IsRecordOf view f n))
+    → HoldsNext view f n held held
 holds-none view f n held other = record {
   found = None;
   added = sym (append-nil held);
@@ -52,7 +54,8 @@ module _ (numbers : List ℕ) (k : ℕ) (inside : k < length numbers) (up : AllP
       All-append (λ one. (j : ℕ) → k + 1 ≤ j → j < length numbers → one.number < get_or numbers j 0) old (option_to_list found)
       (λ i d lt j low high. before i d lt j (omega arith) high) (last found number)
     where
-      last : (found : Option Held) → IfSome found (λ one. one.number ≡ get_or numbers k 0) → ComeBefore numbers (k + 1) (option_to_list found)
+      last : (found : Option Held) → IfSome found (λ one. one.number ≡ get_or numbers k 0)
+          → ComeBefore numbers (k + 1) (option_to_list found)
       last None number = All-nil (λ one. (j : ℕ) → k + 1 ≤ j → j < length numbers → one.number < get_or numbers j 0)
       last (Some one) number =
           All-cons (λ one. (j : ℕ) → k + 1 ≤ j → j < length numbers → one.number < get_or numbers j 0) one []
@@ -85,16 +88,20 @@ held-few view f n old new next =
 -- What the next record holds, on a volume that is told.
 module _ (view : VolumeView) (f n : ℕ) where
   found-current : (found : Option Held) → IfSome found (λ one. one.number ≡ n)
-      → IfSome found (λ one. IsRecordOf view f n × (one.block ≡ opened_of (view.block n))) → All (IsCurrentRecord view) (option_to_list found)
+      → IfSome found (λ one. IsRecordOf view f n × (one.block ≡ opened_of (view.block n)))
+      → All (IsCurrentRecord view) (option_to_list found)
   found-current None number own = All-nil (IsCurrentRecord view)
   found-current (Some one) number (own, block) =
-      All-cons (IsCurrentRecord view) one [] (ap bare_of (block ∙ ap (λ m. opened_of (view.block m)) (sym number))) (All-nil (IsCurrentRecord view))
+      All-cons (IsCurrentRecord view) one [] (ap bare_of (block ∙ ap (λ m. opened_of (view.block m)) (sym number)))
+      (All-nil (IsCurrentRecord view))
 
   found-own : (found : Option Held) → IfSome found (λ one. one.number ≡ n)
-      → IfSome found (λ one. IsRecordOf view f n × (one.block ≡ opened_of (view.block n))) → All (λ one. IsRecordOf view f one.number) (option_to_list found)
+      → IfSome found (λ one. IsRecordOf view f n × (one.block ≡ opened_of (view.block n)))
+      → All (λ one. IsRecordOf view f one.number) (option_to_list found)
   found-own None number own = All-nil (λ one. IsRecordOf view f one.number)
   found-own (Some one) number (own, block) =
-      All-cons (λ one. IsRecordOf view f one.number) one [] (subst (IsRecordOf view f) (sym number) own) (All-nil (λ one. IsRecordOf view f one.number))
+      All-cons (λ one. IsRecordOf view f one.number) one [] (subst (IsRecordOf view f) (sym number) own)
+      (All-nil (λ one. IsRecordOf view f one.number))
 
   -- the parts of a record of the file
   own-parts : IsRecordOf view f n → parts_in (record_on view n) n f ≡ map (part_of n) (attributes (opened_of (view.block n)))
@@ -103,7 +110,8 @@ module _ (view : VolumeView) (f n : ℕ) where
       ∙ parts_in-own n f (record_of n (opened_of (view.block n))) (IsBlockOf-record view f n own).belongs
 
   found-parts : (found : Option Held) → IfSome found (λ one. one.number ≡ n)
-      → IfSome found (λ one. IsRecordOf view f n × (one.block ≡ opened_of (view.block n))) → IfNone found (¬ (IsRecordOf view f n)) → IsRecordOf view f n
+      → IfSome found (λ one. IsRecordOf view f n × (one.block ≡ opened_of (view.block n)))
+      → IfNone found (¬ (IsRecordOf view f n)) → IsRecordOf view f n
       → flat_map parts_of (option_to_list found) ≡ parts_in (record_on view n) n f
   found-parts None number own other is = absurd (other is)
   found-parts (Some one) number (own, block) other is =
@@ -130,11 +138,14 @@ HoldsAll-more view f numbers k old new inside told held next =
       own = subst (All (λ one. IsRecordOf view f one.number)) (sym next.added)
           (All-append (λ one. IsRecordOf view f one.number) old _ held.own (found-own view f n next.found next.number (next.own told)));
       all = λ own.
-          let here : IsRecordOf view f (get_or numbers k 0) = own n (subst (λ xs. Contains xs n) (sym more) (Contains-append_right (take k numbers) _ n (Contains-head n []))) in
+          let here : IsRecordOf view f (get_or numbers k 0) =
+          own n (subst (λ xs. Contains xs n) (sym more) (Contains-append_right (take k numbers) _ n (Contains-head n []))) in
           let before = held.all (λ m c. own m (subst (λ xs. Contains xs m) (sym more) (Contains-append_left (take k numbers) _ m c))) in
           let last = found-parts view f n next.found next.number (next.own told) (next.other told) here in
           ap (flat_map parts_of) next.added ∙ flat_map-append parts_of old (option_to_list next.found)
           ∙ ap (λ xs. xs ++ flat_map parts_of (option_to_list next.found)) before
-          ∙ ap (λ xs. flat_map (λ m. parts_in (record_on view m) m f) (take k numbers) ++ xs) (last ∙ sym (append-nil (parts_in (record_on view n) n f)))
-          ∙ sym (ap (flat_map (λ m. parts_in (record_on view m) m f)) more ∙ flat_map-append (λ m. parts_in (record_on view m) m f) (take k numbers) (n ∷ []));
+          ∙ ap (λ xs. flat_map (λ m. parts_in (record_on view m) m f) (take k numbers) ++ xs)
+          (last ∙ sym (append-nil (parts_in (record_on view n) n f)))
+          ∙ sym (ap (flat_map (λ m. parts_in (record_on view m) m f)) more
+          ∙ flat_map-append (λ m. parts_in (record_on view m) m f) (take k numbers) (n ∷ []));
     }

@@ -59,14 +59,16 @@ base-held view file readable there whole =
     home view f r part is c = All-contains (λ (p : Part). p.holder ≡ f) r.parts part (NameHolders-view view f r is) c
 
 -- Where no record that is held has the number, the base record is not.
-pub base-not_held : (file : FileParts) → ((k : ℕ) (d : Held) → k < length (held_of file) → (get_or (held_of file) k d).number ≢ file_number file)
+pub base-not_held : (file : FileParts)
+    → ((k : ℕ) (d : Held) → k < length (held_of file) → (get_or (held_of file) k d).number ≢ file_number file)
     → ¬ (HoldsBase file)
 base-not_held file none base =
     let w = Contains-from_map (λ (one : Held). one.number) (held_of file) (file_number file) base in
     none w.1.0 w.0 w.1.1 (ap (λ (h : Held). h.number) w.1.2 ∙ w.2)
 
 -- Where one that is held has it, the base record is.
-pub base-held_at : (file : FileParts) (k : ℕ) → k < length (held_of file) → ((d : Held) → (get_or (held_of file) k d).number ≡ file_number file)
+pub base-held_at : (file : FileParts) (k : ℕ) → k < length (held_of file)
+    → ((d : Held) → (get_or (held_of file) k d).number ≡ file_number file)
     → (one : Held) → one ≡ get_or (held_of file) k one → HoldsBase file
 base-held_at file k inside has one is =
     subst (Contains (map (λ (h : Held). h.number) (held_of file))) (ap (λ (h : Held). h.number) is ∙ has one)

@@ -1,5 +1,6 @@
 -- The value of the list that a part holds.
-use Rattle.std.proofs.Common.{◌≡◌, ◌&&◌, ℕ, ◌+◌, ◌-◌, ◌/◌, ◌%◌, ◌≤◌, true, false, cond, ltb, leb, List, [], ◌∷◌, length, map, Some, refl, sym, ap, inl, inr, ◌∙◌, arith}
+use Rattle.std.proofs.Common.{◌≡◌, ◌&&◌, ℕ, ◌+◌, ◌-◌, ◌/◌, ◌%◌, ◌≤◌, true, false, cond, ltb, leb, List, [], ◌∷◌, length, map, Some, refl}
+use Rattle.std.proofs.Common.{sym, ap, inl, inr, ◌∙◌, arith}
 use Rattle.std.specs.Prelude.{unwrap_or}
 use Rattle.std.specs.List.{range_with_len}
 use Rattle.std.proofs.lemmas.Bool.{cases_lt, eq-eqb, le-ltb}
@@ -9,7 +10,8 @@ use Rattle.ntfs_def.specs.Attribute.{ExtentHeader}
 use Rattle.ntfs_def.specs.Runs.{spot_of, total_clusters}
 use Rattle.volume_def.specs.Files.{Clusters, Part, Value, part_clusters, part_runs, content_runs}
 use Rattle.volume_def.specs.ListsClause.{list_value}
-use Rattle.volume_def.specs.Values.{byte_there, first_vcn_of, holds_vcn, is_first, spot_at, spot_by, value_by, value_byte, value_of_parts, value_over}
+use Rattle.volume_def.specs.Values.{byte_there, first_vcn_of, holds_vcn, is_first, spot_at, spot_by, value_by}
+use Rattle.volume_def.specs.Values.{value_byte, value_of_parts, value_over}
 use Rattle.volume_def.specs.Table.{cluster_bytes}
 use Rattle.volume_def.specs.View.{VolumeView}
 use Rattle.volume_def.proofs.ExtentLaws.{holds-here}
@@ -26,7 +28,8 @@ list_value-resident view part value e =
     ∙ ap (value_by view.cluster (cluster_bytes view.layout) (part ∷ [])) e
 
 -- A list in clusters, from the first one of its stream on.
-module _ (part : Part) (extent : ExtentHeader) (runs : List Run) (e : part.content ≡ Clusters extent (Some runs)) (first : extent.sizes.first ≡ 0) where
+module _ (part : Part) (extent : ExtentHeader) (runs : List Run) (e : part.content ≡ Clusters extent (Some runs))
+    (first : extent.sizes.first ≡ 0) where
   from_first : first_vcn_of part.content ≡ 0
   from_first = ap first_vcn_of e ∙ first
 
@@ -37,7 +40,8 @@ module _ (part : Part) (extent : ExtentHeader) (runs : List Run) (e : part.conte
   spot_at-one : (vcn : ℕ) → spot_at (part ∷ []) vcn ≡ spot_of runs vcn
   spot_at-one vcn = elim (cases_lt vcn (part_clusters part)) [
     | inl lt ↦
-        ap (λ o. spot_by o vcn) (find-yes (holds_vcn vcn) part (holds-here vcn part (omega (arith, from_first)) (omega (arith, from_first))))
+        ap (λ o. spot_by o vcn)
+        (find-yes (holds_vcn vcn) part (holds-here vcn part (omega (arith, from_first)) (omega (arith, from_first))))
         ∙ ap (λ xs. spot_of xs (vcn - first_vcn_of part.content)) its-runs
         ∙ (let here : vcn - first_vcn_of part.content ≡ vcn = omega (arith, from_first) in ap (spot_of runs) here)
     | inr past ↦
@@ -51,7 +55,8 @@ module _ (part : Part) (extent : ExtentHeader) (runs : List Run) (e : part.conte
         ∙ elim (leb (first_vcn_of part.content) vcn) as (λ b. (b && false) ≡ false) [ true ↦ refl | false ↦ refl ]
 
   pub list_value-clusters : (view : VolumeView) → list_value view part
-      ≡ map (value_byte view.cluster (cluster_bytes view.layout) (spot_of runs) extent.sizes.initialized) (range_with_len 0 extent.sizes.real)
+      ≡ map (value_byte view.cluster (cluster_bytes view.layout) (spot_of runs) extent.sizes.initialized)
+      (range_with_len 0 extent.sizes.real)
   unfolding value_of_parts
   list_value-clusters view =
       let size = cluster_bytes view.layout in
@@ -64,4 +69,5 @@ module _ (part : Part) (extent : ExtentHeader) (runs : List Run) (e : part.conte
   pub length-list_value : (view : VolumeView) → length (list_value view part) ≡ extent.sizes.real
   length-list_value view =
       ap length (list_value-clusters view)
-      ∙ length-map-range_with_len (value_byte view.cluster (cluster_bytes view.layout) (spot_of runs) extent.sizes.initialized) 0 extent.sizes.real
+      ∙ length-map-range_with_len (value_byte view.cluster (cluster_bytes view.layout) (spot_of runs) extent.sizes.initialized)
+      0 extent.sizes.real

@@ -7,7 +7,8 @@ use Rattle.std.proofs.lemmas.Option.{same_Some}
 use Rattle.std.proofs.lemmas.Bool.{cond-false}
 use Rattle.ntfs_def.specs.declared.run_text.Run.{Run}
 use Rattle.ntfs_def.specs.declared.sizes.Sizes.{Sizes}
-use Rattle.ntfs_def.specs.Attribute.{Attribute, Body, ExtentHeader, NonResident, Resident, attribute_at, content_bytes, content_end, content_offset, extent_of, is_resident, run_text_of, value_of}
+use Rattle.ntfs_def.specs.Attribute.{Attribute, Body, ExtentHeader, NonResident, Resident, attribute_at, content_bytes, content_end}
+use Rattle.ntfs_def.specs.Attribute.{content_offset, extent_of, is_resident, run_text_of, value_of}
 use Rattle.ntfs_def.specs.AttributeList.{HasListShape, list_entries}
 use Rattle.ntfs_def.specs.Runs.{runs_in, spot_of}
 use Rattle.volume_def.specs.Files.{Clusters, Part, Value, content_of, content_extent, part_of, content_runs, content_value}
@@ -27,7 +28,8 @@ value-within true block content extent value short e = omega (arith, ap length (
 value-within false block content extent value short e = cc
 
 -- a value in a record is no longer than the record
-pub value-short : (block : List ℕ) (at : ℕ) (value : List ℕ) → value_of (attribute_at block at).body ≡ Some value → length value ≤ length block
+pub value-short : (block : List ℕ) (at : ℕ) (value : List ℕ) → value_of (attribute_at block at).body ≡ Some value
+    → length value ≤ length block
 unfolding attribute_at
 value-short block at value e =
     value-within (is_resident block at) block (content_bytes block at) _ value
@@ -76,7 +78,8 @@ pub record IsListOf (view : VolumeView) (part : Part) (sizes : Sizes) (text : Li
 listed-at : (view : VolumeView) (part : Part) (extent : ExtentHeader) (text : List ℕ) → part.content ≡ Clusters extent (runs_in text)
     → IsReadableList view part → IsListOf view part extent.sizes text
 listed-at view part extent text e readable =
-    let placed : LiesOnVolume view part extent = subst (λ content. IfSome (content_extent content) (LiesOnVolume view part)) e readable.placed in
+    let placed : LiesOnVolume view part extent =
+    subst (λ content. IfSome (content_extent content) (LiesOnVolume view part)) e readable.placed in
     let w = some-is (runs_in text) (subst (λ content. IsSome (content_runs content)) e placed.text) in
     let is : part.content ≡ Clusters extent (Some w.0) = e ∙ ap (Clusters extent) w.1 in
     let size = length-list_value part extent w.0 is placed.from_start view in

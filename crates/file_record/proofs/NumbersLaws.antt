@@ -35,7 +35,8 @@ AreNumbers-sorted view f some numbers has_cluster up keeps none =
       own = own;
       holders = λ part c. keeps part.holder (has_cluster.holders part c);
       few =
-          let least = RiseFrom-count (λ n. belongs f n (record_on view n)) 0 view.layout.count view.layout.count numbers (omega arith) rising
+          let least = RiseFrom-count (λ n. belongs f n (record_on view n))
+          0 view.layout.count view.layout.count numbers (omega arith) rising
           (λ n c. belongs-own view f n (own n c)) in
           let others = count-others numbers f (keeps f has_cluster.base) in
           omega arith;

@@ -1,12 +1,15 @@
 -- An attribute into whose value bytes were written: all its bytes.
-use Rattle.std.proofs.Common.{◌≡◌, ℕ, ◌+◌, ◌-◌, ◌<◌, ◌≤◌, Bool, true, false, List, cond, drop, length, get_or, max, inl, inr, ap, subst, sym, refl, ◌∙◌, arith}
+use Rattle.std.proofs.Common.{◌≡◌, ℕ, ◌+◌, ◌-◌, ◌<◌, ◌≤◌, Bool, true, false, List, cond, drop, length, get_or, max, inl, inr, ap, subst}
+use Rattle.std.proofs.Common.{sym, refl, ◌∙◌, arith}
 use Rattle.std.specs.Prelude.{◌⊎◌, IsSomeAnd, slice_index, slice_range}
 use Rattle.std.proofs.lemmas.Bool.{cases_lt}
 use Rattle.std.proofs.lemmas.List.{get_or_past, length-take}
 use Rattle.list_laws.proofs.PieceLaws.{index_within, length_within}
 use Rattle.vol_bytes.specs.Field.{u16_at}
 use Rattle.vol_bytes.proofs.FieldLaws.{u32_at-same}
-use Rattle.ntfs_def.specs.Attribute.{NonResident, Resident, attribute_at, attribute_len, attribute_place, content_bytes, content_end, content_offset, extent_at, has_compressed_len, header_len, is_resident, runs_offset, value_of, value_offset}
+use Rattle.ntfs_def.specs.Attribute.{NonResident, Resident, attribute_at, attribute_len, attribute_place, content_bytes, content_end}
+use Rattle.ntfs_def.specs.Attribute.{content_offset, extent_at, has_compressed_len, header_len, is_resident}
+use Rattle.ntfs_def.specs.Attribute.{runs_offset, value_of, value_offset}
 use Rattle.ntfs_def.specs.Record.{used_size}
 use Rattle.ntfs_def.specs.Shape.{HasShape, IsWhole}
 use Rattle.ntfs_def.proofs.PlaceLaws.{attribute_place-bounded}
@@ -24,7 +27,8 @@ pub with-value : (block : List ℕ) (p : ℕ) (P : List ℕ → Type 0) → IsSo
 unfolding attribute_at
 with-value block p P = by (is_resident block p)
   where
-    by : (b : Bool) → IsSomeAnd (value_of (cond b (Resident (content_bytes block p)) (NonResident (extent_at block p) (content_bytes block p)))) P
+    by : (b : Bool)
+        → IsSomeAnd (value_of (cond b (Resident (content_bytes block p)) (NonResident (extent_at block p) (content_bytes block p)))) P
         → (b ≡ true) × P (content_bytes block p)
     by true some = (refl, some)
     by false none = absurd none
@@ -34,11 +38,13 @@ pub u16-piece : (xs : List ℕ) (at len k : ℕ) → k + 1 < len → u16_at (sli
 u16-piece xs at len k h =
     let a = index_within xs at len k (omega (arith, h)) in
     let b = index_within xs at len (k + 1) h in
-    let c : slice_index xs (at + (k + 1)) ≡ slice_index xs (at + k + 1) = ap (slice_index xs) (let e : at + (k + 1) ≡ at + k + 1 = omega arith in e) in
+    let c : slice_index xs (at + (k + 1)) ≡ slice_index xs (at + k + 1) =
+    ap (slice_index xs) (let e : at + (k + 1) ≡ at + k + 1 = omega arith in e) in
     omega (arith, a, b, c)
 
 -- two pieces as long are the same where their bytes are
-pub same-at : (old new : List ℕ) (p len k : ℕ) → p + len ≤ length old → length new ≡ length old → get_or new (p + k) 0 ≡ get_or old (p + k) 0
+pub same-at : (old new : List ℕ) (p len k : ℕ) → p + len ≤ length old → length new ≡ length old
+    → get_or new (p + k) 0 ≡ get_or old (p + k) 0
     → get_or (slice_range new p (p + len)) k 0 ≡ get_or (slice_range old p (p + len)) k 0
 same-at old new p len k inside long same = elim (cases_lt k len) [
   | inl lt ↦ index_within new p len k lt ∙ same ∙ sym (index_within old p len k lt)
@@ -134,7 +140,8 @@ module _ (old new from : List ℕ) (count i at : ℕ) (shape : HasShape old coun
   }
 
   -- they are those of before, with the bytes written over those of the value
-  pub attribute-bytes : PutsBytes (attribute_in old i).bytes (attribute_in new i).bytes from (value_offset (attribute_in old i).bytes 0 + at)
+  pub attribute-bytes : PutsBytes (attribute_in old i).bytes (attribute_in new i).bytes from
+      (value_offset (attribute_in old i).bytes 0 + at)
   attribute-bytes =
       subst (λ o. PutsBytes (attribute_in old i).bytes (attribute_in new i).bytes from (o + at)) (sym offset)
       (subst (λ bytes. PutsBytes bytes (attribute_in new i).bytes from (v + at)) (sym was-bytes)

@@ -1,5 +1,6 @@
 -- Calls that only read leave the volume as it is.
-use Rattle.std.proofs.Common.{◌≡◌, ◌==◌, ◌<◌, ◌≤◌, ◌+◌, ◌*◌, ℕ, true, false, cond, not, List, [], ◌∷◌, length, get_or, take, drop, ap, ◌∙◌, sym, arith}
+use Rattle.std.proofs.Common.{◌≡◌, ◌==◌, ◌<◌, ◌≤◌, ◌+◌, ◌*◌, ℕ, true, false, cond, not, List, [], ◌∷◌, length, get_or, take, drop, ap}
+use Rattle.std.proofs.Common.{◌∙◌, sym, arith}
 use Rattle.std.specs.Prelude.{is_some}
 use Rattle.std.specs.List.{count_by}
 use Rattle.std.proofs.lemmas.List.{take-append-drop, take_more}
@@ -24,7 +25,8 @@ pub reads-more : (numbers : List ℕ) (base k : ℕ) → k < length numbers
     ≤ 2 * count_by (λ n. not (n == base)) (take (k + 1) numbers)
 reads-more numbers base k inside =
     let n = get_or numbers k 0 in
-    let more = ap (count_by (λ n. not (n == base))) (take_more numbers k 0 inside) ∙ count-append (λ n. not (n == base)) (take k numbers) (n ∷ []) in
+    let more = ap (count_by (λ n. not (n == base))) (take_more numbers k 0 inside)
+    ∙ count-append (λ n. not (n == base)) (take k numbers) (n ∷ []) in
     let one = count-cons (λ n. not (n == base)) n [] in
     elim (n == base) as (λ b. count_by (λ n. not (n == base)) (n ∷ []) ≡ cond (not b) 1 0 + 0
     → 2 * count_by (λ n. not (n == base)) (take k numbers) + cond b 0 2 ≤ 2 * count_by (λ n. not (n == base)) (take (k + 1) numbers)) [
@@ -36,5 +38,6 @@ reads-more numbers base k inside =
 pub reads-within : (numbers : List ℕ) (base k : ℕ)
     → 2 * count_by (λ n. not (n == base)) (take k numbers) ≤ 2 * count_by (λ n. not (n == base)) numbers
 reads-within numbers base k =
-    let whole = ap (count_by (λ n. not (n == base))) (sym (take-append-drop k numbers)) ∙ count-append (λ n. not (n == base)) (take k numbers) (drop k numbers) in
+    let whole = ap (count_by (λ n. not (n == base))) (sym (take-append-drop k numbers))
+    ∙ count-append (λ n. not (n == base)) (take k numbers) (drop k numbers) in
     omega arith

@@ -1,5 +1,6 @@
 -- Records of the table that belong to a file.
-use Rattle.std.proofs.Common.{◌≡◌, ◌<◌, ℕ, cond, length, ltb, List, Option, Some, None, IsSomeAnd, IfSome, IfNone, IsTrue, refl, sym, ap, subst, inl, inr, ◌∙◌, arith}
+use Rattle.std.proofs.Common.{◌≡◌, ◌<◌, ℕ, cond, length, ltb, List, Option, Some, None, IsSomeAnd, IfSome, IfNone, IsTrue, refl, sym, ap}
+use Rattle.std.proofs.Common.{subst, inl, inr, ◌∙◌, arith}
 use Rattle.std.proofs.lemmas.Bool.{cases_Bool, lt-ltb, ltb-true}
 use Rattle.std.specs.Prelude.{is_none, unwrap_or}
 use Rattle.std.specs.Option.{option_map}
@@ -93,7 +94,8 @@ IsRecordOf-inside view f n own =
     let w = some-value (record_on view n) (λ r. file_of n r ≡ f) own.belongs in record_at-inside view n w.0 w.1
 
 -- what an opened block tells of the record that was read
-module _ (view : VolumeView) (f n : ℕ) (block : List ℕ) (inside : n < view.layout.count) (sealed : IsSealed (view.block n)) (is : block ≡ opened_of (view.block n)) where
+module _ (view : VolumeView) (f n : ℕ) (block : List ℕ) (inside : n < view.layout.count) (sealed : IsSealed (view.block n))
+    (is : block ≡ opened_of (view.block n)) where
   pub found-own : (found : Option ℕ) → IfSome found (λ count. IsBlockOf f n block × HasShape block count)
       → IfSome found (λ _. IsRecordOf view f n × (block ≡ opened_of (view.block n)))
   found-own None h = tt

@@ -1,5 +1,6 @@
 -- Numbers that rise.
-use Rattle.std.proofs.Common.{◌≡◌, ◌<◌, ◌≤◌, ◌+◌, ℕ, zero, suc, Bool, true, List, [], ◌∷◌, ◌++◌, length, get_or, refl, sym, ap, subst, inl, inr, ◌∙◌, arith}
+use Rattle.std.proofs.Common.{◌≡◌, ◌<◌, ◌≤◌, ◌+◌, ℕ, zero, suc, Bool, true, List, [], ◌∷◌, ◌++◌, length, get_or, refl, sym, ap, subst, inl}
+use Rattle.std.proofs.Common.{inr, ◌∙◌, arith}
 use Rattle.std.proofs.lemmas.Bool.{cases_eq}
 use Rattle.std.specs.List.{Contains, count_by, flat_map, range_with_len}
 use Rattle.list_laws.proofs.FindLaws.{count-cons, count-yes}
@@ -18,7 +19,8 @@ RiseFrom-of from end [] low up inside = tt
 RiseFrom-of from end (n ∷ numbers) low up inside = (
   low (omega arith),
   inside n (0, omega arith, refl),
-  RiseFrom-of (n + 1) end numbers (λ h. let u = up 0 (omega arith) in omega arith) (λ k h. next_rises n numbers k (up (suc k) (omega arith)))
+  RiseFrom-of (n + 1) end numbers (λ h. let u = up 0 (omega arith) in omega arith)
+      (λ k h. next_rises n numbers k (up (suc k) (omega arith)))
       (λ m c. inside m (Contains-later n numbers m c)),
 )
 
@@ -40,10 +42,12 @@ flat_map-rising g from (suc n) end [] is rising none =
 flat_map-rising g from (suc n) end (m ∷ numbers) is (a, b, rising) none = elim (cases_eq from m) [
   | inl e ↦
       let rest = flat_map-rising g (from + 1) n end numbers (omega arith) (subst (λ y. RiseFrom (y + 1) end numbers) (sym e) rising)
-      (λ y c d other. none y (omega arith) d (λ there. elim (Contains-cases m numbers y there) [ inl same ↦ omega arith | inr later ↦ other later ])) in
+      (λ y c d other. none y (omega arith) d
+      (λ there. elim (Contains-cases m numbers y there) [ inl same ↦ omega arith | inr later ↦ other later ])) in
       cc
   | inr ne ↦
-      let rest = flat_map-rising g (from + 1) n end (m ∷ numbers) (omega arith) (omega arith, b, rising) (λ y c d other. none y (omega arith) d other) in
+      let rest = flat_map-rising g (from + 1) n end (m ∷ numbers) (omega arith) (omega arith, b, rising)
+      (λ y c d other. none y (omega arith) d other) in
       let nothing : g from ≡ [] = none from (omega arith) (omega arith) (λ there. elim (Contains-cases m numbers from there) [
         | inl same ↦ ne (sym same)
         | inr later ↦ let low = RiseFrom-low (m + 1) end numbers from rising later in omega arith

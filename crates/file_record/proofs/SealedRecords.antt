@@ -1,5 +1,6 @@
 -- Records of one shape that differ in the update sequence array alone: what is held of a record, what the volume has, and what was stored.
-use Rattle.std.proofs.Common.{◌≡◌, ◌+◌, ◌/◌, ◌%◌, ◌<◌, ◌≤◌, ◌&&◌, nat_lt, ℕ, cond, inl, inr, refl, sym, ap, ◌∙◌, List, length, get_or, map, None, arith, rules}
+use Rattle.std.proofs.Common.{◌≡◌, ◌+◌, ◌/◌, ◌%◌, ◌<◌, ◌≤◌, ◌&&◌, nat_lt, ℕ, cond, inl, inr, refl, sym, ap, ◌∙◌, List, length, get_or, map}
+use Rattle.std.proofs.Common.{None, arith, rules}
 use Rattle.std.proofs.lemmas.Bool.{cases_lt, lt-leb, le-leb, le-ltb, lt-ltb}
 use Rattle.std.proofs.Math.Path.{fun_ext}
 use Rattle.std.specs.List.{range_with_len}
@@ -31,7 +32,8 @@ HasArray-shape block count shape =
     }
 
 -- what a sealed record opens to differs from it there
-pub sealed-outside : (block stored : List ℕ) (count : ℕ) → HasShape block count → Seals block stored → SameOutside block (opened_of stored) 0x30 0x36
+pub sealed-outside : (block stored : List ℕ) (count : ℕ) → HasShape block count → Seals block stored
+    → SameOutside block (opened_of stored) 0x30 0x36
 sealed-outside block stored count shape seals =
     let place = place-shape block shape.header in
     let numbers = numbers-shape block shape.header in
@@ -77,7 +79,8 @@ module _ (a b : List ℕ) (count : ℕ) (shape : HasShape a count) (same : SameO
       elim (cases_lt k 0x30) [
         | inl low ↦ bare-before b k (omega (arith, q)) ∙ same.below k low ∙ sym (bare-before a k (omega (arith, p)))
         | inr from ↦ elim (cases_lt k 0x36) [
-          | inl inside ↦ bare-inside b k (omega (arith, q)) (omega (arith, q, n)) ∙ sym (bare-inside a k (omega (arith, p)) (omega (arith, p, m)))
+          | inl inside ↦ bare-inside b k (omega (arith, q)) (omega (arith, q, n))
+              ∙ sym (bare-inside a k (omega (arith, p)) (omega (arith, p, m)))
           | inr behind ↦
               bare-behind b k (omega (arith, q)) (omega (arith, q, n)) ∙ same.above k behind
               ∙ sym (bare-behind a k (omega (arith, p)) (omega (arith, p, m)))

@@ -1,5 +1,6 @@
 -- A part that is held, of which the value was written or the sizes were set: its record then, and what was held of it.
-use Rattle.std.proofs.Common.{◌≡◌, ◌+◌, ◌<◌, ◌≤◌, ℕ, List, [], ◌∷◌, length, get_or, set, take, slice_get, zero, suc, Some, refl, sym, ap, subst, ◌∙◌}
+use Rattle.std.proofs.Common.{◌≡◌, ◌+◌, ◌<◌, ◌≤◌, ℕ, List, [], ◌∷◌, length, get_or, set, take, slice_get, zero, suc, Some, refl, sym}
+use Rattle.std.proofs.Common.{ap, subst, ◌∙◌}
 use Rattle.std.specs.Prelude.{IsSome, IsSomeAnd, IsTrue}
 use Rattle.std.specs.List.{flat_map}
 use Rattle.list_laws.proofs.OptionLaws.{some_same}
@@ -38,7 +39,8 @@ same-header a b e = subst (KeepsRecordHeader a) (sym e) (record { sequence = ref
 
 -- an attribute that has another body leaves its record one of its file
 pub EditsHeld-changed : (o o' : List ℕ) (i : ℕ) → ChangesBody o o' i → EditsHeld o o'
-EditsHeld-changed o o' i changes = record { shape = changes.shape; base = ap (λ (h : Header). h.base) changes.header; in_use = changes.in_use }
+EditsHeld-changed o o' i changes =
+    record { shape = changes.shape; base = ap (λ (h : Header). h.base) changes.header; in_use = changes.in_use }
 
 pub Replaces-changed : (o o' : List ℕ) (i : ℕ) → HasShape o (length (attributes o)) → i < length (attributes o) → ChangesBody o o' i
     → Replaces (attributes o) (attributes o') (attribute_in o i ∷ []) (attribute_in o' i ∷ [])
@@ -63,7 +65,8 @@ module _ (held : List Held) (k left i : ℕ) (one : Held) (is : one ≡ get_or h
   part-held =
       part-at held k left i one (attribute_in one.block left) inside place
       (ap (λ (h : Held). slice_get (attributes h.block) left) (sym is)
-      ∙ slice_get-attributes one.block _ left (subst (HasShape one.block) (sym (length-attributes one.block one.count one.shape)) one.shape) lt)
+      ∙ slice_get-attributes one.block _ left
+      (subst (HasShape one.block) (sym (length-attributes one.block one.count one.shape)) one.shape) lt)
       ∙ ap (λ (h : Held). Some (part_of h.number (attribute_in one.block left))) (sym is)
 
   -- a value that holds bytes there holds them in its record

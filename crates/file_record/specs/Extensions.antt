@@ -1,5 +1,6 @@
 -- Records that come to a file, and go: what the volume has then, and what is held. Of a file that is made, its base record.
-use Rattle.std.specs.Prelude.{◌≡◌, ℕ, ◌+◌, ◌*◌, ◌<◌, ◌≤◌, ◌^◌, ◌%◌, Bool, false, List, [], ◌∷◌, IsTrue, None, Some, get_or, length, map, if◌then◌else◌}
+use Rattle.std.specs.Prelude.{◌≡◌, ℕ, ◌+◌, ◌*◌, ◌<◌, ◌≤◌, ◌^◌, ◌%◌, Bool, false, List, [], ◌∷◌, IsTrue, None, Some, get_or}
+use Rattle.std.specs.Prelude.{length, map, if◌then◌else◌}
 use Rattle.ntfs_def.specs.Attribute.{attributes}
 use Rattle.ntfs_def.specs.Fixup.{array_place, opened_of}
 use Rattle.ntfs_def.specs.Record.{Reference, header_of, is_in_use, sequence_of, used_size}

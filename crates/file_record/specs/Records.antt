@@ -1,5 +1,6 @@
 -- The records of a file, and the reads that they take.
-use Rattle.std.specs.Prelude.{◌≡◌, ℕ, ◌+◌, ◌*◌, ◌==◌, Bool, false, List, length, find, Option, Some, None, IsSomeAnd, IsTrue, is_some, unwrap_or, count_by, if◌then◌else◌}
+use Rattle.std.specs.Prelude.{◌≡◌, ℕ, ◌+◌, ◌*◌, ◌==◌, Bool, false, List, length, find, Option, Some, None, IsSomeAnd, IsTrue, is_some}
+use Rattle.std.specs.Prelude.{unwrap_or, count_by, if◌then◌else◌}
 use Rattle.std.specs.List.{range_with_len}
 use Rattle.std.specs.Option.{option_map}
 use Rattle.ntfs_def.specs.Attribute.{attributes}

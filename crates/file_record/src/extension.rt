@@ -1,5 +1,6 @@
 //! Extension records that come to a file, and go.
-ghost use Rattle.std.specs.Prelude.{◌≡◌, ◌≢◌, ◌↔◌, ◌<◌, ◌≤◌, ◌+◌, ◌*◌, ◌^◌, ℕ, [], IfErr, IfOk, IsTrue, MatchResult, None, OnErr, OnOk, false, get_or, length, vec_capacity, vec_len};
+ghost use Rattle.std.specs.Prelude.{◌≡◌, ◌≢◌, ◌↔◌, ◌<◌, ◌≤◌, ◌+◌, ◌*◌, ◌^◌, ℕ, [], IfErr, IfOk, IsTrue, MatchResult, None, OnErr, OnOk};
+ghost use Rattle.std.specs.Prelude.{false, get_or, length, vec_capacity, vec_len};
 ghost use Rattle.std.specs.List.{insert, remove};
 ghost use Rattle.ntfs_def.specs.Attribute.{attributes};
 ghost use Rattle.volume_def.specs.Coverage.{IsApart};
@@ -136,7 +137,8 @@ impl FileParts {
         ensures taken { IfOk result (λ place. IsTrue (view D.Disk mft.old).told → IsApart (view D.Disk mft.old).layout
             → IsWholeFile (view D.Disk mft.old) self.old → NamesOne (reference_of (view D.Disk mft.old) (file_number self.old))
             → RecordHeld self.new place (λ held. 1024 * held.number + 1024 ≤ (view D.Disk mft.old).layout.initialized
-            → ComesEmpty (view D.Disk mft.old) (view D.Disk mft.new) held.number (reference_of (view D.Disk mft.old) (file_number self.old)))) }
+            → ComesEmpty (view D.Disk mft.old) (view D.Disk mft.new) held.number
+            (reference_of (view D.Disk mft.old) (file_number self.old)))) }
         ensures held { IfOk result (λ place. IsTrue (view D.Disk mft.old).told → IsApart (view D.Disk mft.old).layout
             → IsWholeFile (view D.Disk mft.old) self.old → NamesOne (reference_of (view D.Disk mft.old) (file_number self.old))
             → RecordHeld self.new place (λ held. 1024 * held.number + 1024 ≤ (view D.Disk mft.old).layout.initialized

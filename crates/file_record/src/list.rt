@@ -1,5 +1,6 @@
 //! The attribute list of a file.
-ghost use Rattle.std.specs.Prelude.{◌≡◌, ◌≤◌, ◌<◌, ◌==◌, List, Some, IfErr, IfOk, IsTrue, MatchResult, OnOk, find, length, map, min, replicate};
+ghost use Rattle.std.specs.Prelude.{◌≡◌, ◌≤◌, ◌<◌, ◌==◌, List, Some, IfErr, IfOk, IsTrue, MatchResult, OnOk, find, length};
+ghost use Rattle.std.specs.Prelude.{map, min, replicate};
 ghost use Rattle.std.specs.List.{range_with_len};
 ghost use Rattle.std.specs.Option.{option_map};
 ghost use Rattle.ntfs_def.specs.declared.kinds.TheConstants.{ATTRIBUTE_LIST};

@@ -1,5 +1,6 @@
 //! A file, loaded by its number.
-ghost use Rattle.std.specs.Prelude.{◌≡◌, ◌≤◌, ◌<◌, ◌*◌, ◌-◌, ◌==◌, [], All, IfErr, IfOk, IsTrue, MatchResult, OnOk, count_by, if◌then◌else◌, length, not};
+ghost use Rattle.std.specs.Prelude.{◌≡◌, ◌≤◌, ◌<◌, ◌*◌, ◌-◌, ◌==◌, [], All, IfErr, IfOk, IsTrue, MatchResult, OnOk, count_by};
+ghost use Rattle.std.specs.Prelude.{if◌then◌else◌, length, not};
 ghost use Rattle.std.specs.List.Sorted.{IsStrictlyIncreasing};
 ghost use Rattle.volume_def.specs.Readable.{IsFile, WhereReadable};
 ghost use Rattle.mft_table.specs.Mft.{MftReads, faults_of, mounted_of, view};

@@ -64,7 +64,8 @@ impl Held {
         requires sound { is_mft_broken D.Disk mft.old ≡ false }
         ensures replaces { OnOk result (IsApart (view D.Disk mft.old).layout
             → 1024 * self.now.number + 1024 ≤ (view D.Disk mft.old).layout.initialized
-            → (stored : List ℕ) × Seals self.now.block stored × ReplacesBlock (view D.Disk mft.old) (view D.Disk mft.new) self.now.number stored) }
+            → (stored : List ℕ) × Seals self.now.block stored
+            × ReplacesBlock (view D.Disk mft.old) (view D.Disk mft.new) self.now.number stored) }
         ensures bits { OnOk result (mounted_of D.Disk mft.new ≡ with_record_taken (mounted_of D.Disk mft.old) self.now.number) }
         ensures stages { OnOk result
             (ReadsAndStages D.Disk (record_places (view D.Disk mft.old).layout self.now.number) 4 0 mft.old mft.new) }

@@ -1,5 +1,6 @@
 -- What is asked for is what the bill asks for, and the refusals stand in its order.
-use Rattle.std.proofs.Common.{◌≡◌, ◌&&◌, ◌+◌, ◌*◌, ◌<◌, ◌≤◌, ℕ, Bool, true, false, cond, ◌∷◌, List, Option, Some, None, Ok, Err, inl, inr, refl, sym, ap, ◌∙◌, arith, find}
+use Rattle.std.proofs.Common.{◌≡◌, ◌&&◌, ◌+◌, ◌*◌, ◌<◌, ◌≤◌, ℕ, Bool, true, false, cond, ◌∷◌, List, Option, Some, None, Ok, Err, inl, inr}
+use Rattle.std.proofs.Common.{refl, sym, ap, ◌∙◌, arith, find}
 use Rattle.std.specs.Prelude.{nat_lt, option_map}
 use Rattle.std.specs.Option.{option_or}
 use Rattle.std.proofs.lemmas.Bool.{le-ltb, lt-ltb}
@@ -7,7 +8,8 @@ use Rattle.volume_def.specs.Room.{list_len_of, longest_name, unowned_clusters, u
 use Rattle.volume_def.specs.Table.{cluster_bytes}
 use Rattle.volume_def.specs.View.{VolumeView}
 use Rattle.tree_model.specs.Need.{Bill, Touched, list_growth, need_of, records_wanted, table_growth}
-use Rattle.tree_model.specs.NoRoom.{growth_on, is_long_list, lacks_clusters, mft_free, mft_need, need_on, no_room_for, too_deep, too_many_parts}
+use Rattle.tree_model.specs.NoRoom.{growth_on, is_long_list, lacks_clusters, mft_free, mft_need, need_on}
+use Rattle.tree_model.specs.NoRoom.{no_room_for, too_deep, too_many_parts}
 use Rattle.tree_model.specs.Refusals.{when}
 use Rattle.tree_model.specs.declared.reply.No.{No}
 use Rattle.tree_model.specs.declared.reply.No.TheVariants as no
@@ -17,7 +19,8 @@ use Rattle.tree_read.specs.Held.{AreParts, file_number, parts_held}
 use Rattle.tree_read.specs.Answered.{Says}
 use Rattle.tree_read.specs.declared.stop.Stop.{Stop}
 use Rattle.tree_read.specs.declared.stop.Stop.TheVariants as stop
-use Rattle.file_room.specs.Asked.{IsFreeOn, bill_by, bill_making, free_for_runs, has_room, lacks_free, lacks_records, list_len_by, made_by, short_of_clusters, touched_by}
+use Rattle.file_room.specs.Asked.{IsFreeOn, bill_by, bill_making, free_for_runs, has_room, lacks_free, lacks_records, list_len_by}
+use Rattle.file_room.specs.Asked.{made_by, short_of_clusters, touched_by}
 use Rattle.file_room.specs.Made.{made_bill}
 use Rattle.file_room.specs.declared.free.FreeRoom.{FreeRoom}
 use Rattle.file_room.specs.declared.list.ListRoom.{ListRoom}
@@ -87,7 +90,8 @@ module _ (view : VolumeView) (bill : Bill) where
     abbrev clusters_by : Bool → Option No
     clusters_by lacks = option_or (when lacks (no.NoRoom (need_on view bill) (unowned_clusters view))) None
 
-    pub clusters-refused : lacks_clusters view bill ≡ true → has_room (lacks_free view bill) ≡ Err (no.NoRoom (need_on view bill) (unowned_clusters view))
+    pub clusters-refused : lacks_clusters view bill ≡ true
+        → has_room (lacks_free view bill) ≡ Err (no.NoRoom (need_on view bill) (unowned_clusters view))
     clusters-refused lacks = ap has_room (then-clusters ∙ ap clusters_by lacks)
 
     pub clusters-enough : lacks_clusters view bill ≡ false → has_room (lacks_free view bill) ≡ Ok tt

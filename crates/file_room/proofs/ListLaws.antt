@@ -1,5 +1,6 @@
 -- What the parts of a file that is held tell of an attribute list, one by one.
-use Rattle.std.proofs.Common.{◌≡◌, ◌+◌, ◌-◌, ◌*◌, ◌/◌, ◌^◌, ◌≤◌, ℕ, not, true, false, cond, List, [], ◌∷◌, length, max, drop, sym, arith, length-append}
+use Rattle.std.proofs.Common.{◌≡◌, ◌+◌, ◌-◌, ◌*◌, ◌/◌, ◌^◌, ◌≤◌, ℕ, not, true, false, cond, List, [], ◌∷◌, length, max, drop}
+use Rattle.std.proofs.Common.{sym, arith, length-append}
 use Rattle.std.specs.Prelude.{fold, slice_range, sum_by}
 use Rattle.std.specs.List.{flat_map}
 use Rattle.std.proofs.lemmas.List.{length-drop, length-map, length-take}
@@ -25,7 +26,8 @@ range-most xs a b = let x = length-take (b - a) (drop a xs) in let y = length-dr
 pub name-short : (a : AttrView) → length (attribute_of a).name ≤ 1024
 unfolding attribute_at
 name-short a =
-    let most = range-most a.block.now (a.at + name_offset a.block.now a.at) (a.at + name_end a.block.now a.at) in omega (arith, a.size, most)
+    let most = range-most a.block.now (a.at + name_offset a.block.now a.at) (a.at + name_end a.block.now a.at) in
+    omega (arith, a.size, most)
 
 few-parts : (held : List Held) → length (flat_map parts_of held) ≤ 1024 * length held
 few-parts [] = omega arith

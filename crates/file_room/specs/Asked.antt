@@ -1,5 +1,5 @@
--- THE ROOM THAT IS ASKED FOR, of a command that changes one file, or makes one under a name in a directory: what the parts of that file tell
--- of its attribute list, the bill by that, and the refusals of this bill, one by one.
+-- THE ROOM THAT IS ASKED FOR, of a command that changes one file, or makes one under a name in a directory: what the parts of that file
+-- tell of its attribute list, the bill by that, and the refusals of this bill, one by one.
 use Rattle.std.specs.Prelude.{◌≡◌, ◌≤◌, ◌+◌, ◌*◌, ◌^◌, nat_lt, ℕ, Bool, Option, None, Some, Result, Ok, Err, List, [], ◌∷◌, codes}
 use Rattle.std.specs.Prelude.{if◌then◌else◌, length, sum_by, unwrap_or}
 use Rattle.std.specs.Option.{option_or}

@@ -30,7 +30,8 @@ const TOO_DEEP: u64 = 10;
 // The units of the name of a directory's index, `$I30`.
 const INDEX_UNITS: u64 = 4;
 
-// What is reckoned for the list of a new file: 96 bytes, of a directory too, and the units of the longest name, that of a directory's index.
+// What is reckoned for the list of a new file: 96 bytes, of a directory too,
+// and the units of the longest name, that of a directory's index.
 fn new_list(directory: bool) -> ListRoom
     ensures listed { IsListed result (new_touched directory) }
     ensures few { result.name_units ≤ 512 }

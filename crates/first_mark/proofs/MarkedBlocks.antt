@@ -1,10 +1,12 @@
 -- The mark and the log that were written rewrite the value of the flag and the clusters of the log, and nothing else.
-use Rattle.std.proofs.Common.{◌≡◌, ◌≢◌, ◌+◌, ◌*◌, ◌-◌, ◌/◌, ◌<◌, ◌≤◌, ◌==◌, ◌||◌, ℕ, true, false, List, [], ◌∷◌, length, Some, refl, sym, ap, subst, inl, inr, ◌∙◌, arith, get_or, get_or-drop, get_or-take}
+use Rattle.std.proofs.Common.{◌≡◌, ◌≢◌, ◌+◌, ◌*◌, ◌-◌, ◌/◌, ◌<◌, ◌≤◌, ◌==◌, ◌||◌, ℕ, true, false, List, [], ◌∷◌, length, Some, refl, sym}
+use Rattle.std.proofs.Common.{ap, subst, inl, inr, ◌∙◌, arith, get_or, get_or-drop, get_or-take}
 use Rattle.std.specs.Prelude.{◌⊎◌, Contains, IsTrue, cond, drop, replicate, slice_index, slice_range}
 use Rattle.std.proofs.lemmas.Bool.{cases_eq, ne_eqb}
 use Rattle.std.proofs.lemmas.Nat.{le-div}
 use Rattle.vol_disk.specs.Contents.{sector_in}
-use Rattle.ntfs_def.specs.Attribute.{Attribute, Resident, attributes, attribute_at, attribute_len, attribute_place, content_bytes, is_resident, value_len, value_offset}
+use Rattle.ntfs_def.specs.Attribute.{Attribute, Resident, attributes, attribute_at, attribute_len, attribute_place, content_bytes}
+use Rattle.ntfs_def.specs.Attribute.{is_resident, value_len, value_offset}
 use Rattle.ntfs_def.specs.Shape.{HasShape}
 use Rattle.ntfs_def.specs.Boot.{boot_sector}
 use Rattle.ntfs_def.specs.declared.kinds.TheConstants.{DATA, VOLUME_INFORMATION}

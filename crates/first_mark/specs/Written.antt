@@ -13,8 +13,8 @@ use Rattle.volume_mark.specs.SameVolume.{AgreesButMark}
 abbrev pub IsBesideLog : VolumeView → ℕ → Type 0
 IsBesideLog view sector = (vcn : ℕ) → spot_at (log_parts view) vcn ≢ At (sector / view.layout.cluster_sectors)
 
--- THE MARK AND THE LOG AT MOST WERE WRITTEN: the bytes differ from those that were staged in the bit of the mark, and in clusters of the log,
--- alone.
+-- THE MARK AND THE LOG AT MOST WERE WRITTEN: the bytes differ from those that were staged in the bit of the mark, and in clusters of the
+-- log, alone.
 pub record DiffersByMark (view : VolumeView) (flag : Flag) (staged written : List ℕ) : Type 0 where
   pub agrees : AgreesButMark view flag staged written
   pub beside : (n : ℕ) → IsBesideLog view n

@@ -21,8 +21,8 @@ ghost use Rattle.first_mark.specs.Written.{DiffersByMark};
 /// Bytes that differ from those of a sound volume in the bit of its mark and in its log alone are the volume in which the value of the
 /// flag and the clusters of the log were rewritten, and nothing else (`rewrites`). Where the bit is set and the log is empty, that is all
 /// that the first edit of a run does beside its own (`marked`). Of records and copies it writes those of the flag alone, so where the log
-/// stays behind what is emptied it is what may come behind an edit (`behind`). So is what a call wrote that finishes such an edit, by the spans
-/// of the log (`finished`).
+/// stays behind what is emptied it is what may come behind an edit (`behind`). So is what a call wrote that finishes such an edit, by the
+/// spans of the log (`finished`).
 pub fn first_mark_laws()
     ensures rewrites { (view : VolumeView) (flag : Flag) (staged written : List ℕ) → IsVolumeOf staged view → IsSound view
         → IsFlagOf view flag → DiffersByMark view flag staged written

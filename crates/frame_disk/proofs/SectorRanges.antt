@@ -7,7 +7,8 @@ use Rattle.vol_disk.specs.Contents.{sector_of}
 use Rattle.list_laws.proofs.PieceLaws.{take-drop-take}
 
 -- a sector of the bytes from sector `first` on
-pub sector-of-part : (all : List ℕ) (first most k : ℕ) → 512 * k + 512 ≤ most → sector_of (take most (drop (512 * first) all)) k ≡ sector_of all (first + k)
+pub sector-of-part : (all : List ℕ) (first most k : ℕ) → 512 * k + 512 ≤ most
+    → sector_of (take most (drop (512 * first) all)) k ≡ sector_of all (first + k)
 sector-of-part all first most k fits =
     let at : 512 * first + 512 * k ≡ 512 * (first + k) = omega arith in
     take-drop-take (drop (512 * first) all) (512 * k) 512 most fits
@@ -25,7 +26,8 @@ module _ (a n : ℕ) (all bytes : List ℕ) (long : length bytes ≡ 512 * n) (i
       let head = length-take-le (512 * a) all (omega arith) in
       ap (λ m. take 512 (drop m then)) at
       ∙ sym (take-drop-take then (512 * a + 512 * k) 512 (512 * a + 512 * n) (omega arith))
-      ∙ ap (λ zs. take 512 (drop (512 * a + 512 * k) zs)) (take-put_mid (512 * a) (512 * n) all bytes (512 * a + 512 * n) (omega arith) (omega arith))
+      ∙ ap (λ zs. take 512 (drop (512 * a + 512 * k) zs))
+      (take-put_mid (512 * a) (512 * n) all bytes (512 * a + 512 * n) (omega arith) (omega arith))
       ∙ ap (take 512) (sym (drop-drop (512 * k) (512 * a) (take (512 * a) all ++ bytes)))
       ∙ ap (λ zs. take 512 (drop (512 * k) zs)) (drop_at (take (512 * a) all) bytes (512 * a) head)
 

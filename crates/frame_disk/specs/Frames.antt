@@ -1,5 +1,5 @@
--- FRAMES: eight sectors behind one another, the first of them at a multiple of eight. A pool of 64 slots holds some of a disk's frames, each
--- in its slot, the remainder of its number.
+-- FRAMES: eight sectors behind one another, the first of them at a multiple of eight. A pool of 64 slots holds some of a disk's frames,
+-- each in its slot, the remainder of its number.
 use Rattle.std.specs.Prelude.{◌≡◌, ◌⊎◌, ◌+◌, ◌*◌, ◌<◌, ◌≤◌, ◌%◌, ℕ, List, Option, Some, slice_get}
 use Rattle.vol_disk.specs.Contents.{IsTold, sector_in, sector_of}
 

@@ -1,5 +1,6 @@
 //! A disk that reads another by frames, and keeps some of them.
-ghost use Rattle.std.specs.Prelude.{◌≡◌, ◌+◌, ◌*◌, ◌/◌, ◌%◌, ◌^◌, ◌<◌, ◌≤◌, ℕ, IfOk, List, None, OnErr, OnOk, Option, Some, length, slice_set, true, vec_len};
+ghost use Rattle.std.specs.Prelude.{◌≡◌, ◌+◌, ◌*◌, ◌/◌, ◌%◌, ◌^◌, ◌<◌, ◌≤◌, ℕ, IfOk, List, None, OnErr, OnOk, Option, Some, length};
+ghost use Rattle.std.specs.Prelude.{slice_set, true, vec_len};
 ghost use Rattle.vol_disk.specs.Contents.{IsTold, sector_in, sector_of};
 ghost use Rattle.frame_disk.specs.Frames.{AreFrames, HasFrame, IsBeside, IsForgotten, IsIn, slot_of};
 ghost use Rattle.frame_disk.specs.Ranges.{KeepsAll};
@@ -176,7 +177,8 @@ impl<D: RangeDisk + Drop> FrameDisk<D> {
         requires some { 0 < count }
         requires slots { slot_of frame + count ≤ 64 }
         requires few { frame + count < 2 ^ 64 }
-        requires frames { (k : ℕ) → k < count → HasFrame (D.now (inner_of D.Disk self.old)) self.old.room.items (slot_of frame + k) (frame + k) }
+        requires frames { (k : ℕ) → k < count
+            → HasFrame (D.now (inner_of D.Disk self.old)) self.old.room.items (slot_of frame + k) (frame + k) }
         ensures held { IsIn self.new.held.items (slot_of frame) frame }
         ensures disk { inner_of D.Disk self.new ≡ inner_of D.Disk self.old }
     {

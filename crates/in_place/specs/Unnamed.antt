@@ -35,8 +35,8 @@ pub record LiesApart (view : VolumeView) : Type 0 where
   pub some : 0 < view.layout.cluster_sectors
   pub unnamed : owners.table.part.name ≡ []
 
--- WHERE A FILE'S ATTRIBUTES CAN BE SET: on a sound volume whose clusters lie apart, of a file that is shown as this node. Neither the file nor
--- a directory in which it has a name is that of the volume's version, whose record the mark is written to.
+-- WHERE A FILE'S ATTRIBUTES CAN BE SET: on a sound volume whose clusters lie apart, of a file that is shown as this node. Neither the file
+-- nor a directory in which it has a name is that of the volume's version, whose record the mark is written to.
 pub record CanSet (view : VolumeView) (f : ℕ) (node : Node) : Type 0 where
   pub sound : IsSound view
   pub apart : LiesApart view

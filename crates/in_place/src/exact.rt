@@ -17,8 +17,8 @@ ghost use Rattle.in_place.specs.InPlace.{Rewrites};
 ghost use Rattle.in_place.specs.Unnamed.{IsQuiet, KeepsMarks, LiesApart, NamesNoKind};
 
 /// A rewrite by a command that makes no file, drops no name and sets no point leaves of nodes what it is to leave, where the flags that
-/// tell of a sparse stream and of a point stay, and no name of its file is named. A stream keeps its flags, its sizes and its clusters, also
-/// the one that the command is about.
+/// tell of a sparse stream and of a point stay, and no name of its file is named. A stream keeps its flags, its sizes and its clusters,
+/// also the one that the command is about.
 pub fn nodes_owed()
     ensures { (changed : Key → Bool) (old new : VolumeView) → Rewrites changed old new
         → (before next : Tree) (command : Command) (at : Located) (made : ℕ) → IsQuiet before command at

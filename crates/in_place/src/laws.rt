@@ -69,9 +69,9 @@ pub fn rewritten_room()
         → AreRight new marks }
 {}
 
-/// Headers of attributes stay, of named ones too (`forms`). Where no cluster has two owners, all attributes but the named ones, the table of
-/// records and its mirror keep what they tell, their places and their clusters (`kept`); and what every edit may write stays in its place,
-/// where none of it is named (`places`).
+/// Headers of attributes stay, of named ones too (`forms`). Where no cluster has two owners, all attributes but the named ones, the table
+/// of records and its mirror keep what they tell, their places and their clusters (`kept`); and what every edit may write stays in its
+/// place, where none of it is named (`places`).
 pub fn rewritten_attributes()
     ensures forms { (changed : Key → Bool) (old new : VolumeView) → Rewrites changed old new → (named : Key → Bool) (f : ℕ)
         → KeepsForms named old new f }

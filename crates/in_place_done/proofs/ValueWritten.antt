@@ -121,7 +121,8 @@ module _ (before : State) (command : Command) (at : Located) (node : Node)
       (set-alone (between before command mid) (c.Setattr [] 0) at (staged.over before command at node is h bytes gains count new s) new
       (staged.can-set before command at node is h bytes gains count new s) (staged.set before command at node is h bytes gains count new s))
 
-  module _ (may : MayEdit before command at bytes (gains s.name) (count s.name) mid s.name) (next : State) (first : MarksBehind new next.view)
+  module _ (may : MayEdit before command at bytes (gains s.name) (count s.name) mid s.name) (next : State)
+      (first : MarksBehind new next.view)
       (settled : IsSound next.view) (long : length next.image ≡ length before.image)
       (wrote : next.written ≤ before.written + most_written before command at.file new) where
     few : next.written ≤ before.written + bytes_in command / 512 + 2 * given_back old mid + 2 * given_back mid old

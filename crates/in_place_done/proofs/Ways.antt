@@ -178,7 +178,8 @@ clusters-some view tree (c.Write path stream from bytes) at is =
     is).1
 clusters-some view tree (c.Hwrite handle from bytes) at is =
     goes-some view tree at from (length bytes)
-    (and_parts (not (is_done_in_place view tree (c.Hwrite handle from bytes) at)) (goes_into_clusters view tree at from (length bytes)) is).1
+    (and_parts (not (is_done_in_place view tree (c.Hwrite handle from bytes) at))
+    (goes_into_clusters view tree at from (length bytes)) is).1
 clusters-some view tree (c.Truncate path stream size) at is = ends-some view tree at size is
 clusters-some view tree (c.Rmstream path name) at is = lies-some view tree at is
 clusters-some view tree other at is = cc

@@ -61,7 +61,8 @@ module _ (before next : State) (command : Command) (at : Located) (staged : Volu
     depth-same : (dir : ℕ) (now : Part) → first_part (parts_at new dir INDEX_ROOT (wide (codes "$I30"))) ≡ Some now
         → index_depth new (directory_index dir) ≤ index_depth staged (directory_index dir)
     depth-same dir now bt =
-        let kept = index-other is_first_key staged new s.first.rewrites (apart-staged before next command at staged s) [] (directory_index dir)
+        let kept = index-other is_first_key staged new s.first.rewrites
+        (apart-staged before next command at staged s) [] (directory_index dir)
         refl refl refl now now (ap first_part (sym (root-same dir)) ∙ bt) bt in
         let deep : index_depth new (directory_index dir) ≤ index_depth staged (directory_index dir) + 0 = kept.depth in
         omega (arith, deep)
@@ -86,7 +87,8 @@ module _ (before next : State) (command : Command) (at : Located) (staged : Volu
         let root = ap first_part (sym (root-same dir)) in
         let deep = (s.roots dir has was now a (root ∙ b)).depth in
         let same = depth-same dir now b in
-        index-by (is_either_key tree command at) old new (both before next command at staged s) (apart before next command at staged s) changes
+        index-by (is_either_key tree command at) old new (both before next command at staged s)
+        (apart before next command at staged s) changes
         (directory_index dir) (bits-free dir)
         (λ was now a b. (s.roots dir has was now a (root ∙ b)).head) (omega (arith, deep, same)) was now a b
 

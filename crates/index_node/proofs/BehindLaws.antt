@@ -22,9 +22,9 @@ use Rattle.index_node.proofs.PieceLaws.{dropped, from_entries, from_holds, from_
 use Rattle.index_node.proofs.PieceLaws.{place-place}
 use Rattle.index_node.proofs.PieceLaws.{short_behind}
 use Rattle.index_node.proofs.SpanLaws.{child_some, entries_len-is, first_is, inside, low, order, place_low, room_ends}
-use Rattle.index_node.proofs.SpliceLaws.{Holds-moved, closed_node, closed_pieces, closed_said, closed_short, edits_node, edits_pieces, edits_short, ends, kept_opened}
-use Rattle.index_node.proofs.SpliceLaws.{said_now, spliced_all, spliced_children, spliced_keeps, spliced_len}
-use Rattle.index_node.proofs.SpliceLaws.{spliced_node, spliced_pieces}
+use Rattle.index_node.proofs.SpliceLaws.{Holds-moved, closed_node, closed_pieces, closed_said, closed_short, edits_node, edits_pieces}
+use Rattle.index_node.proofs.SpliceLaws.{edits_short, ends, kept_opened, said_now, spliced_all, spliced_children, spliced_keeps}
+use Rattle.index_node.proofs.SpliceLaws.{spliced_len, spliced_node, spliced_pieces}
 
 nodes_eq : {es fs : List Entry} {c d : Option ℕ} → es ≡ fs → c ≡ d → (let x : Node = record { entries = es; last = c } in x) ≡ record {
   entries = fs;

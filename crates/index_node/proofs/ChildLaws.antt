@@ -196,7 +196,8 @@ module _ (form : NodeForm) (old new : List ℕ) (end place vcn : ℕ) (same : Sa
       ap (λ l. slice_range new at (at + l)) (len_same at w (λ k f t. bytes side k f (omega arith)))
       ∙ range_same old new at (at + entry_len old at) same.len (bytes side)
     where
-      bytes : place + 8 ≤ at ⊎ at + entry_len old at ≤ place → (k : ℕ) → at ≤ k → k < at + entry_len old at → get_or new k 0 ≡ get_or old k 0
+      bytes : place + 8 ≤ at ⊎ at + entry_len old at ≤ place → (k : ℕ) → at ≤ k → k < at + entry_len old at
+          → get_or new k 0 ≡ get_or old k 0
       bytes (inl le) k f t = same.above k (omega arith)
       bytes (inr le) k f t = same.below k (omega arith)
 

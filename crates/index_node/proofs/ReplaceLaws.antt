@@ -16,8 +16,8 @@ use Rattle.index_node.proofs.NodeLaws.{entry_place-next, get_or-entries_from, pl
 use Rattle.index_node.proofs.LeadLaws.{is_one}
 use Rattle.index_node.proofs.PieceLaws.{put_over}
 use Rattle.index_node.proofs.SpanLaws.{inner_in, inside, low, order, room_ends}
-use Rattle.index_node.proofs.SpliceLaws.{edits_node, edits_pieces, edits_short, ends, entry_in-is, put_node, put_pieces, put_said, put_short, said_now}
-use Rattle.index_node.proofs.SpliceLaws.{spliced_children, spliced_keeps}
+use Rattle.index_node.proofs.SpliceLaws.{edits_node, edits_pieces, edits_short, ends, entry_in-is, put_node, put_pieces, put_said}
+use Rattle.index_node.proofs.SpliceLaws.{put_short, said_now, spliced_children, spliced_keeps}
 
 -- what is known of one entry's length by its item
 pub item_len-at : (node : List ℕ) (children : Bool) (end at : ℕ) → IsWholeEntry node children end at → end ≤ length node

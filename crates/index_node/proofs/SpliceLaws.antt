@@ -1,6 +1,7 @@
 -- What a node says whose entries were moved to make room, or to close it.
 use Rattle.std.proofs.Common.{◌≡◌, ℕ, suc, ◌+◌, ◌-◌, ◌<◌, ◌≤◌, ◌==◌, ◌/◌, ◌%◌, List, [], ◌∷◌, ◌++◌, Option, Some, None, Bool, true}
-use Rattle.std.proofs.Common.{false, insert, remove, length, take, get_or, slice_range, slice_index, refl, sym, ap, subst, ◌∙◌, arith, rules}
+use Rattle.std.proofs.Common.{false, insert, remove, length, take, get_or, slice_range, slice_index, refl, sym, ap, subst}
+use Rattle.std.proofs.Common.{◌∙◌, arith, rules}
 use Rattle.std.specs.Prelude.{All, IsTrue, if◌then◌else◌}
 use Rattle.std.specs.Option.{option_and_then}
 use Rattle.std.proofs.lemmas.Bool.{leb-true}

@@ -2,8 +2,8 @@
 ghost use Rattle.std.specs.Prelude.{◌≡◌, ◌+◌, ◌-◌, ◌<◌, ◌≤◌, ℕ, List, IfSome, IsSome, OnOk, Some, length};
 ghost use Rattle.vol_bytes.specs.Field.{SameOutside, u32_at};
 ghost use Rattle.ntfs_def.specs.Node.{Node, has_children, node_in};
-ghost use Rattle.index_node.specs.Edit.{EditsNode, EditsShort, HasLonger, HasPlace, IsLonger, IsOpened, entries_len, entry_in, with_entry_at};
-ghost use Rattle.index_node.specs.Edit.{HoldsRoot, InsertsInRoot, IsDown, IsShortEntry, LeadsDown};
+ghost use Rattle.index_node.specs.Edit.{EditsNode, EditsShort, HasLonger, HasPlace, IsLonger, IsOpened, entries_len, entry_in};
+ghost use Rattle.index_node.specs.Edit.{with_entry_at, HoldsRoot, InsertsInRoot, IsDown, IsShortEntry, LeadsDown};
 
 use crate::NodeView;
 use crate::edit::{insert_at, put_front};

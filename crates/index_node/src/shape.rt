@@ -1,6 +1,8 @@
 //! The tests of a node's shape: its header and its entries.
 ghost use Rattle.std.specs.Prelude.{◌≡◌, ◌<◌, ◌≤◌, ◌+◌, ◌^◌, IfOk, IfErr, IfSome, IsTrue, None, is_some, length};
-ghost use Rattle.ntfs_def.specs.Node.{HasEntries, entry_place, scan_from, scan_node, child_len, entries_end, entry_flags, entry_len, key_len, first_entry, has_children, holds_data, is_last_entry, is_whole, node_header, node_header_failing, room_end};
+ghost use Rattle.ntfs_def.specs.Node.{HasEntries, entry_place, scan_from, scan_node, child_len, entries_end, entry_flags, entry_len};
+ghost use Rattle.ntfs_def.specs.Node.{key_len, first_entry, has_children, holds_data, is_last_entry, is_whole};
+ghost use Rattle.ntfs_def.specs.Node.{node_header, node_header_failing, room_end};
 ghost use Rattle.index_node.specs.Shape.{IsHeaderAt, Stands};
 ghost use Rattle.index_node.specs.View.{Refuses};
 

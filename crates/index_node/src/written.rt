@@ -1,8 +1,10 @@
 //! A node is laid out from the bytes of its entries.
 ghost use Rattle.std.specs.Prelude.{◌≡◌, ◌↔◌, ◌+◌, ◌-◌, ◌≤◌, ◌^◌, min, ◌∷◌, [], IfErr, IsOk, OnErr, OnOk, Some, None, length};
 ghost use Rattle.vol_bytes.specs.Field.{SameOutside};
-ghost use Rattle.ntfs_def.specs.Node.{entries_end, first_entry, has_children, node_header, node_header_failing, node_in, room_end, short_node};
-ghost use Rattle.index_node.specs.LayOut.{AreEntries, AreShort, HoldsPieces, KeepsHeader, LacksRoom, SetsHeader, node_listed, room_len, total_len};
+ghost use Rattle.ntfs_def.specs.Node.{entries_end, first_entry, has_children, node_header, node_header_failing};
+ghost use Rattle.ntfs_def.specs.Node.{node_in, room_end, short_node};
+ghost use Rattle.index_node.specs.LayOut.{AreEntries, AreShort, HoldsPieces, KeepsHeader, LacksRoom, SetsHeader};
+ghost use Rattle.index_node.specs.LayOut.{node_listed, room_len, total_len};
 
 use crate::NodeNo;
 use crate::shape::{first_entry, node_header, room_end};

@@ -3,7 +3,8 @@ use Rattle.std.proofs.Common.{Bool, true, false, ◌≡◌, ℕ, suc, ◌+◌, �
 use Rattle.std.proofs.lemmas.Bool.{and_parts, eq-eqb, eqb-true}
 use Rattle.std.specs.Prelude.{IsTrue}
 use Rattle.vol_bytes.specs.Field.{u32_at}
-use Rattle.ntfs_def.specs.Node.{Node, entries_end, entry_len, entry_place, first_entry, has_children, is_entry, is_one_entry, key_len, node_header, node_in, room_end}
+use Rattle.ntfs_def.specs.Node.{Node, entries_end, entry_len, entry_place, first_entry, has_children, is_entry, is_one_entry, key_len}
+use Rattle.ntfs_def.specs.Node.{node_header, node_in, room_end}
 use Rattle.ntfs_def.specs.declared.index.NodeForm.TheVariants.{Names}
 use Rattle.list_laws.proofs.OptionLaws.{some_same}
 use Rattle.index_node.specs.Edit.{HasRoomFor, entries_len}

@@ -104,13 +104,15 @@ module _ (nodes : Nodes) (root : Option Node) (said : Node) (here : root ≡ Som
   root_levels levels below = let e = below has.depth has.small has.s.last last-is last-stored in omega (arith, e)
 
 -- what a record says that was read
-pub read_node : (r : ℕ → Option (List ℕ)) (vcn : ℕ) (block : List ℕ) (said : Node) → r vcn ≡ Some block → short_nodes Names r vcn ≡ Some said
+pub read_node : (r : ℕ → Option (List ℕ)) (vcn : ℕ) (block : List ℕ) (said : Node) → r vcn ≡ Some block
+    → short_nodes Names r vcn ≡ Some said
     → node_in Names block ≡ Some said
 read_node r vcn block said read here = short_in Names block said (ap (option_and_then (short_node Names)) (sym read) ∙ here)
 
 -- THE INDEX OF A DIRECTORY that is held.
 module _ (view : VolumeView) (file : FileParts) (table : List ℕ) (items : List Item) (held : IsHeldWith view file table items)
-    (some : 0 < cluster_bytes view.layout) (index : FoundIndex) (found : IsFound file index) (name : index.name.now ≡ wide (codes "$I30")) where
+    (some : 0 < cluster_bytes view.layout) (index : FoundIndex) (found : IsFound file index)
+    (name : index.name.now ≡ wide (codes "$I30")) where
   pub held_tree : HasTreeUnder (short_nodes Names (records_found view file index)) (short_node Names index.root.now)
   held_tree =
       let walks = held.has.index.walks in

@@ -1,5 +1,6 @@
 -- A directory that is held while an entry is to come into its index: its records as they are read, and the leaf of a key.
-use Rattle.std.proofs.Common.{◌≡◌, ◌<◌, ℕ, Bool, true, false, cond, eqb, List, [], ◌∷◌, map, Option, Some, None, refl, sym, ap, subst, ◌∙◌, arith, inl, inr, suc}
+use Rattle.std.proofs.Common.{◌≡◌, ◌<◌, ℕ, Bool, true, false, cond, eqb, List, [], ◌∷◌, map, Option, Some, None, refl, sym, ap, subst, ◌∙◌}
+use Rattle.std.proofs.Common.{arith, inl, inr, suc}
 use Rattle.std.specs.Prelude.{All, IsTrue, codes}
 use Rattle.std.specs.List.{find}
 use Rattle.std.specs.Option.{option_and_then, option_map_or}
@@ -105,7 +106,8 @@ module _ (view : VolumeView) (file : FileParts) (table : List ℕ) (items : List
     records = records_found view file index
 
     pub same-root : has.root ≡ index.root.now
-    same-root = one-root (sym has.is_root ∙ subst (λ (i : IndexParts). map (λ part. content_value part.content) i.root ≡ Some index.root.now ∷ [])
+    same-root =
+        one-root (sym has.is_root ∙ subst (λ (i : IndexParts). map (λ part. content_value part.content) i.root ≡ Some index.root.now ∷ [])
         same-index found.parts.is_root)
 
     there : (vcn : ℕ) → IsIndexRecordAt view parts vcn → records vcn ≡ Some (opened_of (stored_index_record view parts vcn))
@@ -138,7 +140,8 @@ module _ (view : VolumeView) (file : FileParts) (table : List ℕ) (items : List
     fold-is = ap fold_of held.case
 
     -- what a search for a leaf asks for
-    pub has-sorted : HasSortedIndex (name_order (fold_of table)) is_name_key (short_nodes Names records) (short_node Names index.root.now) 15
+    pub has-sorted : HasSortedIndex (name_order (fold_of table)) is_name_key (short_nodes Names records)
+        (short_node Names index.root.now) 15
     has-sorted =
         subst (λ fold. HasSortedIndex (name_order fold) is_name_key (short_nodes Names records) (short_node Names index.root.now) 15)
         (sym fold-is)
@@ -159,7 +162,8 @@ module _ (view : VolumeView) (file : FileParts) (table : List ℕ) (items : List
       root-is = root-value (short_node Names) parts.root has.root has.is_root ∙ has.says
 
       -- THE LEAF that is found is that of the volume
-      pub same-leaf : leaf_of side (short_nodes Names records) (short_node Names index.root.now) ≡ leaf_for view (file_number file) (key_units key)
+      pub same-leaf : leaf_of side (short_nodes Names records) (short_node Names index.root.now)
+          ≡ leaf_for view (file_number file) (key_units key)
       unfolding name_order
       same-leaf =
           ap (leaf_of side (short_nodes Names records)) (root-says ∙ ap (λ (n : Node). Some n) (sym has.walks.holds.node))

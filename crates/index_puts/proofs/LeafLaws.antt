@@ -1,5 +1,6 @@
 -- The leaf in which the search for a key ends, in a tree that is held.
-use Rattle.std.proofs.Common.{◌≡◌, ℕ, zero, suc, ◌-◌, ◌≤◌, Bool, true, false, List, [], ◌∷◌, map, Option, Some, None, refl, sym, ap, subst, ◌∙◌, arith}
+use Rattle.std.proofs.Common.{◌≡◌, ℕ, zero, suc, ◌-◌, ◌≤◌, Bool, true, false, List, [], ◌∷◌, map, Option, Some, None, refl, sym, ap}
+use Rattle.std.proofs.Common.{subst, ◌∙◌, arith}
 use Rattle.std.specs.Option.{option_and_then, option_map_or}
 use Rattle.std.specs.declared.cmp.Ordering.{Ordering}
 use Rattle.std.specs.declared.cmp.Ordering.TheVariants.{Equal, Greater, Less}
@@ -74,7 +75,8 @@ leaf_next side nodes levels vcn said e i hit place child is =
     leaf_step side nodes levels vcn said e
     ∙ ap (λ c. option_map_or (leaf_under side nodes levels) c (Some vcn)) (child_on-at side said.entries said.last i hit place ∙ sym is)
 
-pub leaf_from : (side : List ℕ → Ordering) (nodes : Nodes) (level vcn : ℕ) (said : Node) → nodes vcn ≡ Some said → 1 ≤ level → (i : ℕ) (hit : Bool)
+pub leaf_from : (side : List ℕ → Ordering) (nodes : Nodes) (level vcn : ℕ) (said : Node) → nodes vcn ≡ Some said
+    → 1 ≤ level → (i : ℕ) (hit : Bool)
     → IsPlace side said.entries i hit → (child : Option ℕ) → child ≡ child_from said.entries said.last i
     → leaf_under side nodes level vcn ≡ option_map_or (leaf_under side nodes (level - 1)) child (Some vcn)
 leaf_from side nodes zero vcn said e some i hit place child is = absurd (omega (arith, some))
@@ -99,7 +101,8 @@ module _ (side : List ℕ → Ordering) (depth : ℕ) (P Q : Tree depth → Type
       met : (o : Ordering) → side b.item.key ≡ o → (c : Option ℕ) → child_beside o (child_of depth b.below)
           (child_on side (map (entry_of depth) bs) (child_of depth last)) ≡ c
           → child_on side (map (entry_of depth) (b ∷ bs)) (child_of depth last) ≡ c
-      met o is c e = ap (λ x. child_beside x (child_of depth b.below) (child_on side (map (entry_of depth) bs) (child_of depth last))) is ∙ e
+      met o is c e = ap (λ x. child_beside x (child_of depth b.below) (child_on side (map (entry_of depth) bs) (child_of depth last))) is
+          ∙ e
 
       by : Below bs last → (o : Ordering) → side b.item.key ≡ o → Below (b ∷ bs) last
       by rest Less is =
@@ -115,7 +118,8 @@ module _ (side : List ℕ → Ordering) (nodes others : Nodes) where
   -- the search ends in the same record
   tree_same : (depth : ℕ) (t : Tree depth) → IsStored nodes depth t → IsStored others depth t → (level : ℕ) → depth ≤ level
       → (own : Option ℕ)
-      → option_map_or (leaf_under side nodes level) (child_of depth t) own ≡ option_map_or (leaf_under side others level) (child_of depth t) own
+      → option_map_or (leaf_under side nodes level) (child_of depth t) own
+      ≡ option_map_or (leaf_under side others level) (child_of depth t) own
   tree_same zero t p q level small own = refl
   tree_same (suc depth) t p q zero small own = absurd (omega (arith, small))
   tree_same (suc depth) t p q (suc level) small own =
@@ -141,7 +145,8 @@ pub record IsSaid (nodes : Nodes) (leaf : ℕ) : Type 0 where
   pub said : Node
   pub is : nodes leaf ≡ Some said
 
-pub leaf_said : (side : List ℕ → Ordering) (nodes : Nodes) (level vcn leaf : ℕ) → leaf_under side nodes level vcn ≡ Some leaf → IsSaid nodes leaf
+pub leaf_said : (side : List ℕ → Ordering) (nodes : Nodes) (level vcn leaf : ℕ)
+    → leaf_under side nodes level vcn ≡ Some leaf → IsSaid nodes leaf
 unfolding leaf_under
 leaf_said side nodes zero vcn leaf is = absurd (none_other is)
 leaf_said side nodes (suc level) vcn leaf is = by (λ child h. leaf_said side nodes level child leaf h) (nodes vcn) refl

@@ -65,5 +65,6 @@ module _ (order : List ℕ → List ℕ → Ordering) (valid : List ℕ → Bool
           → EditReads most order valid (short_nodes Names r) (short_node Names root) before after
       root_costs most before after costs node is depth s index =
           costs depth (below_at s.branches s.last i)
-          (subst (λ c. IsSorted order valid (short_nodes Names r) depth (below_at s.branches s.last i) c) (sym (seeks.leads node (short_in Names root node is)))
+          (subst (λ c. IsSorted order valid (short_nodes Names r) depth (below_at s.branches s.last i) c)
+          (sym (seeks.leads node (short_in Names root node is)))
           (index_below order valid laws (short_nodes Names r) depth s node index i))

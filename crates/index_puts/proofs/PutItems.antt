@@ -1,5 +1,6 @@
 -- THE INDEX OF A DIRECTORY where an item came into a leaf of it.
-use Rattle.std.proofs.Common.{◌≡◌, ◌<◌, ◌≤◌, ℕ, Bool, true, false, cond, List, [], ◌∷◌, Some, None, refl, sym, ap, subst, ◌∙◌, arith, inl, inr, zero, suc}
+use Rattle.std.proofs.Common.{◌≡◌, ◌<◌, ◌≤◌, ℕ, Bool, true, false, cond, List, [], ◌∷◌, Some, None, refl, sym, ap, subst, ◌∙◌, arith, inl}
+use Rattle.std.proofs.Common.{inr, zero, suc}
 use Rattle.std.specs.Prelude.{All, IsSome, IsTrue, codes, filter}
 use Rattle.std.specs.Option.{option_and_then}
 use Rattle.std.proofs.lemmas.Bool.{cases_Bool}
@@ -63,12 +64,14 @@ module _ (old new : VolumeView) (dir : ℕ) (owners : HasOwners old)
 
   -- and so is the table of case
   case-apart : (part : Part) → is_of DATA [] part ≡ true → is_of INDEX_ALLOCATION names part ≡ true → ⊥
-  case-apart part its here = absurd (let e : DATA ≡ INDEX_ALLOCATION = sym (named DATA [] part its).0 ∙ (named INDEX_ALLOCATION names part here).0 in
+  case-apart part its here =
+      absurd (let e : DATA ≡ INDEX_ALLOCATION = sym (named DATA [] part its).0 ∙ (named INDEX_ALLOCATION names part here).0 in
       omega (arith, e))
 
   pub same-case : value_on new (case_parts new) ≡ value_on old (case_parts old)
   same-case =
-      ap (λ (rs : Records). value_of_parts new.cluster (cluster_bytes new.layout) (filter (is_of DATA []) (files.parts rs UPCASE))) same-records
+      ap (λ (rs : Records). value_of_parts new.cluster (cluster_bytes new.layout) (filter (is_of DATA []) (files.parts rs UPCASE)))
+      same-records
       ∙ ap (λ (l : TableLayout). value_of_parts new.cluster (cluster_bytes l) (case_parts old)) changes.layout
       ∙ value-frame old.cluster new.cluster (cluster_bytes old.layout) (case_parts old)
       (clusters-kept old new dir INDEX_ALLOCATION names owners changes UPCASE DATA [] (inr case-apart))
@@ -140,7 +143,8 @@ module _ (old new : VolumeView) (dir : ℕ) (owners : HasOwners old)
       index-moved : (other : IndexParts) → other ≡ parts
           → (g : HasIndex Names (name_rule new) new other now) × (g.root ≡ has.root) × (g.walks.depth ≡ has.walks.depth)
       index-moved other same =
-          subst (λ (i : IndexParts). (g : HasIndex Names (name_rule new) new i now) × (g.root ≡ has.root) × (g.walks.depth ≡ has.walks.depth))
+          subst (λ (i : IndexParts). (g : HasIndex Names (name_rule new) new i now) × (g.root ≡ has.root)
+          × (g.walks.depth ≡ has.walks.depth))
           (sym same) (index-now, refl, refl)
 
       pub items-now : HasItems new dir now

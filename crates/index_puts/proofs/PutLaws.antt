@@ -60,7 +60,8 @@ module _ (order : List ℕ → List ℕ → Ordering) (valid : List ℕ → Bool
           inserts_kept order valid laws nodes vcn said read item at.at at.hit at.place nodes'
           (subst (λ c. InsertsBelow order valid nodes nodes' c item None) (sym same)
           (next child
-          (subst (λ l. HasSorted order valid nodes (Some child) l) less (subst (λ c. HasSorted order valid nodes c (suc level - 1)) same lower))
+          (subst (λ l. HasSorted order valid nodes (Some child) l) less
+          (subst (λ c. HasSorted order valid nodes c (suc level - 1)) same lower))
           (way (Some child) e)))
 
   -- into the tree under a record

@@ -18,7 +18,8 @@ use Rattle.tree_model.specs.LeafRoom.{leaf_of}
 use Rattle.index_puts.proofs.PutLaws.{put_under}
 use Rattle.index_puts.proofs.RoomLaws.{leaf_node}
 
-module _ (order : List ℕ → List ℕ → Ordering) (valid : List ℕ → Bool) (laws : IsOrder order) (place_law : SealedPlace) (short_law : SealedShort)
+module _ (order : List ℕ → List ℕ → Ordering) (valid : List ℕ → Bool) (laws : IsOrder order) (place_law : SealedPlace)
+    (short_law : SealedShort)
     (entry key root block now : List ℕ) (is_key : key ≡ (item_in entry).key) (short : IsShortEntry Names false entry)
     (right : IsTrue (valid (item_in entry).key)) (leaf : Leaf) (ends : EndsIn order key block leaf)
     (inserts : Inserts Names block now leaf.place entry) (long : length now ≡ 4096) (r r' : ℕ → Option (List ℕ))

@@ -1,5 +1,6 @@
 -- THE VOLUME where an item was put into the index of a directory: the items of the directory, and all else as it was.
-use Rattle.std.proofs.Common.{◌≡◌, ◌≢◌, ◌*◌, ◌+◌, ℕ, suc, true, List, [], ◌∷◌, filter, Some, slice_range, refl, sym, ap, subst, inl, inr, ◌∙◌, arith}
+use Rattle.std.proofs.Common.{◌≡◌, ◌≢◌, ◌*◌, ◌+◌, ℕ, suc, true, List, [], ◌∷◌, filter, Some, slice_range, refl, sym, ap, subst, inl}
+use Rattle.std.proofs.Common.{inr, ◌∙◌, arith}
 use Rattle.std.specs.Prelude.{◌⊎◌, codes}
 use Rattle.std.specs.Option.{option_and_then, option_map_or}
 use Rattle.std.proofs.Math.Path.{fun_ext}
@@ -119,13 +120,16 @@ module _ (old new : VolumeView) (dir : ℕ) (item : Item) (puts : PutsItem old n
 
     -- THE DEPTH of every other index
     module _ (other : Index) (apart : ¬ ((other.file ≡ dir) × (other.name ≡ names))) where
-      parts-apart : (other.file ≢ dir) ⊎ ((part : Part) → is_of INDEX_ALLOCATION other.name part ≡ true → is_of INDEX_ALLOCATION names part ≡ true → ⊥)
+      parts-apart : (other.file ≢ dir)
+          ⊎ ((part : Part) → is_of INDEX_ALLOCATION other.name part ≡ true → is_of INDEX_ALLOCATION names part ≡ true → ⊥)
       parts-apart = elim (cases_eq other.file dir) [
         | inr ne ↦ inl ne
-        | inl same ↦ inr (λ part a b. apart (same, sym (named INDEX_ALLOCATION other.name part a).1 ∙ (named INDEX_ALLOCATION names part b).1))
+        | inl same ↦ inr (λ part a b.
+            apart (same, sym (named INDEX_ALLOCATION other.name part a).1 ∙ (named INDEX_ALLOCATION names part b).1))
       ]
 
-      same-value : value_on new (index_parts new other.file other.name).records ≡ value_on old (index_parts old other.file other.name).records
+      same-value : value_on new (index_parts new other.file other.name).records
+          ≡ value_on old (index_parts old other.file other.name).records
       same-value =
           ap (λ (rs : Records). value_of_parts new.cluster (cluster_bytes new.layout)
           (filter (is_of INDEX_ALLOCATION other.name) (parts rs other.file))) same-records

@@ -35,7 +35,8 @@ ok-both (Err e) f a b = tt
 module _ (old new : VolumeView) (file : FileParts) (table : List ℕ) (item : Item) (lacks : LacksKey old file table item.key)
     (owners : HasOwners old) (some : 0 < cluster_bytes old.layout) (index : FoundIndex) (found : IsFound file index)
     (named : index.name.now ≡ wide (codes "$I30"))
-    (into : PutsInto (name_order (fold_of table)) is_name_key old new (index_held file index.name.now) (short_node Names index.root.now) item)
+    (into : PutsInto (name_order (fold_of table)) is_name_key old new (index_held file index.name.now)
+    (short_node Names index.root.now) item)
     (changed : ChangesStream old new (spot_at (index_held file index.name.now).records)) where
   abbrev dir : ℕ
   dir = file_number file

@@ -1,5 +1,6 @@
 -- The record in which a part of a file that is held stands, and its free bytes.
-use Rattle.std.proofs.Common.{◌≡◌, ◌+◌, ◌-◌, ◌<◌, ℕ, Bool, true, false, cond, zero, suc, List, [], ◌∷◌, get_or, length, take, Option, Some, None, refl, sym, ap, subst, ◌∙◌, arith}
+use Rattle.std.proofs.Common.{◌≡◌, ◌+◌, ◌-◌, ◌<◌, ℕ, Bool, true, false, cond, zero, suc, List, [], ◌∷◌, get_or, length, take, Option, Some}
+use Rattle.std.proofs.Common.{None, refl, sym, ap, subst, ◌∙◌, arith}
 use Rattle.std.specs.List.{flat_map}
 use Rattle.std.specs.Prelude.{Contains, IsSomeAnd, nat_lt, slice_get}
 use Rattle.std.proofs.lemmas.Bool.{ltb-true}
@@ -60,7 +61,8 @@ module _ (file : FileParts) (k left i : ℕ) (inside : k < length (held_of file)
   part-is : slice_get (parts_held file) i ≡ Some (part_of one.number its)
   part-is =
       part-at (held_of file) k left i one its inside place
-      (ap (λ (h : Held). slice_get (attributes h.block) left) is ∙ slice_get-attributes one.block (length (attributes one.block)) left shape within)
+      (ap (λ (h : Held). slice_get (attributes h.block) left) is
+      ∙ slice_get-attributes one.block (length (attributes one.block)) left shape within)
       ∙ ap (λ (h : Held). Some (part_of h.number its)) is
 
   pub tells-free : (free : ℕ) → RecordHeld file k (λ held. free + used_size held.block ≡ 1024) → TellsFree file i free
@@ -81,7 +83,8 @@ formed : (view : VolumeView) (n : ℕ) (r : Record) → IsReadableVolume view �
 unfolding record_in
 formed view n r readable e = by (nat_lt n view.layout.count) refl e
   where
-    inner : (b : Bool) → is_in_use (view.block n) ≡ b → n < view.layout.count → record_in n (view.block n) ≡ Some r → IsWellFormed (view.block n)
+    inner : (b : Bool) → is_in_use (view.block n) ≡ b → n < view.layout.count → record_in n (view.block n) ≡ Some r
+        → IsWellFormed (view.block n)
     inner true used l is = readable.shape n l used
     inner false used l is =
         let none : None ≡ Some r = sym (ap (λ b. cond b (Some (record_of n (opened_of (view.block n)))) None) used) ∙ is in absurd (cc)

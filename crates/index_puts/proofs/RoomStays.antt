@@ -33,10 +33,12 @@ root-in roots = option_and_then (λ part. option_and_then (short_node Names) (co
 abbrev room-in : IndexParts → List ℕ → ℕ → (ℕ → ℕ) → List ℕ → ℕ → Bool
 room-in index value size fold units len =
     option_map_or (λ vcn. has_room len (record-in size value vcn))
-    (leaf_of (λ key. compare_units fold (key_units key) units) (λ vcn. short_node Names (record-in size value vcn)) (root-in index.root)) false
+    (leaf_of (λ key. compare_units fold (key_units key) units) (λ vcn. short_node Names (record-in size value vcn)) (root-in index.root))
+    false
 
 room-is : (view : VolumeView) (dir : ℕ) (units : List ℕ) (len : ℕ) → has_leaf_room view dir units len
-    ≡ room-in (names_of_directory view dir) (value_on view (names_of_directory view dir).records) (cluster_bytes view.layout) (volume_fold view)
+    ≡ room-in (names_of_directory view dir) (value_on view (names_of_directory view dir).records)
+    (cluster_bytes view.layout) (volume_fold view)
     units len
 unfolding has_leaf_room index_nodes
 room-is view dir units len = refl

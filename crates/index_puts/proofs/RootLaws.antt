@@ -38,7 +38,8 @@ pub flip : (a b : Bool) → a ≡ not b → b ≡ not a
 flip a true e = sym (ap not e)
 flip a false e = sym (ap not e)
 
-module _ (view : VolumeView) (file : FileParts) (items : List Item) (held : IsHeldFile view file) (h : HasItems view (file_number file) items) where
+module _ (view : VolumeView) (file : FileParts) (items : List Item) (held : IsHeldFile view file)
+    (h : HasItems view (file_number file) items) where
   abbrev dir : ℕ
   dir = file_number file
 
@@ -58,11 +59,13 @@ module _ (view : VolumeView) (file : FileParts) (items : List Item) (held : IsHe
   pub root-part : first_part (attribute_held file INDEX_ROOT names) ≡ None → ⊥
   root-part none =
       let is : map (λ part. content_value part.content) (attribute_held file INDEX_ROOT names) ≡ Some h.index.root ∷ [] =
-      ap (λ (all : List Part). map (λ part. content_value part.content) (filter (is_of INDEX_ROOT names) all)) same-parts ∙ h.index.is_root in
+      ap (λ (all : List Part). map (λ part. content_value part.content) (filter (is_of INDEX_ROOT names) all)) same-parts
+      ∙ h.index.is_root in
       root-found file INDEX_ROOT names h.index.root is none
 
   -- THE ROOM
-  pub root-room : (index : FoundIndex) → IsFound file index → index.name.now ≡ names → (first : FirstPart) → TellsSizes file INDEX_ROOT names first
+  pub root-room : (index : FoundIndex) → IsFound file index → index.name.now ≡ names → (first : FirstPart)
+      → TellsSizes file INDEX_ROOT names first
       → (leaf listed : Bool) (len free : ℕ)
       → ((said : Node) → node_in Names index.root.now ≡ Some said → leaf ≡ not (is_some said.last))
       → listed ≡ list_any is_list (parts_held file) → TellsFree file first.index free

@@ -30,7 +30,8 @@ abbrev alone : Item → Entry
 alone item = record { item = item; child = None }
 
 module _ (order : List ℕ → List ℕ → Ordering) (valid : List ℕ → Bool) (laws : IsOrder order) (nodes : Nodes) (item : Item)
-    (key : IsTrue (valid item.key)) (depth : ℕ) (s : Spread (Tree depth)) (root : Node) (index : IsSortedIndex order valid nodes depth s root)
+    (key : IsTrue (valid item.key)) (depth : ℕ) (s : Spread (Tree depth)) (root : Node)
+    (index : IsSortedIndex order valid nodes depth s root)
     (absent : IsAbsent order item.key (spread_items depth s)) (last : root.last ≡ None) (i : ℕ) (hit : Bool)
     (place : IsPlace (λ x. order x item.key) root.entries i hit) where
   no_child : child_of_node (node_of depth s) i ≡ None

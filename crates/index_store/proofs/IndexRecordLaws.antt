@@ -1,5 +1,6 @@
 -- Whether an index record is there, as a test and as the volume definition says it.
-use Rattle.std.proofs.Common.{◌≡◌, ◌≢◌, ℕ, ◌+◌, ◌-◌, ◌*◌, ◌/◌, ◌%◌, ◌<◌, ◌≤◌, true, false, not, List, length, Some, None, cond, inl, inr, refl, sym, ap, subst, ◌∙◌, arith}
+use Rattle.std.proofs.Common.{◌≡◌, ◌≢◌, ℕ, ◌+◌, ◌-◌, ◌*◌, ◌/◌, ◌%◌, ◌<◌, ◌≤◌, true, false, not, List, length, Some, None, cond, inl, inr}
+use Rattle.std.proofs.Common.{refl, sym, ap, subst, ◌∙◌, arith}
 use Rattle.std.specs.Prelude.{◌==◌, IsSome}
 use Rattle.std.specs.Bool.{Decides}
 use Rattle.std.specs.List.{list_all, range_with_len}
@@ -9,7 +10,8 @@ use Rattle.std.proofs.lemmas.Bool.Decides.{Decides-and, Decides-eqb, Decides-lik
 use Rattle.vol_bytes.specs.Field.{u16_at}
 use Rattle.ntfs_def.specs.declared.run_text.Spot.{Spot}
 use Rattle.ntfs_def.specs.declared.run_text.Spot.TheVariants.{Outside, Hole, At}
-use Rattle.ntfs_def.specs.Fixup.{EndsWithNumber, IsSealed, array_count, array_end, array_place, opened_of, sequence_number, stride_count, stride_end}
+use Rattle.ntfs_def.specs.Fixup.{EndsWithNumber, IsSealed, array_count, array_end, array_place, opened_of}
+use Rattle.ntfs_def.specs.Fixup.{sequence_number, stride_count, stride_end}
 use Rattle.list_laws.specs.Bits.{bit_in}
 use Rattle.ntfs_def.specs.Node.{own_vcn}
 use Rattle.volume_def.specs.Files.{Part}
@@ -17,7 +19,8 @@ use Rattle.volume_def.specs.IndexesClause.{IndexParts, IsIndexRecordAt, stored_i
 use Rattle.volume_def.specs.Table.{cluster_bytes}
 use Rattle.volume_def.specs.Values.{spot_at, value_on}
 use Rattle.volume_def.specs.View.{VolumeView}
-use Rattle.index_store.specs.IndexRecords.{AreRecordsOf, are_placed, index_record_on, is_hole, is_index_record_at, is_sealed, record_clusters}
+use Rattle.index_store.specs.IndexRecords.{AreRecordsOf, are_placed, index_record_on, is_hole}
+use Rattle.index_store.specs.IndexRecords.{is_index_record_at, is_sealed, record_clusters}
 use Rattle.list_laws.proofs.BoolLaws.{Decides-le, tests-below}
 
 -- Blocks.
@@ -78,7 +81,8 @@ pub placed-not : (extents : List Part) (vcn count k : ℕ) → k < count → is_
 unfolding are_placed
 placed-not extents vcn count k lt hole = elim (cases_Bool (are_placed extents vcn count)) [
   | inl e ↦
-      let no : not (is_hole (spot_at extents (vcn + k))) ≡ true = (tests-below (λ j. not (is_hole (spot_at extents (vcn + j)))) count).0 e k lt in
+      let no : not (is_hole (spot_at extents (vcn + k))) ≡ true =
+      (tests-below (λ j. not (is_hole (spot_at extents (vcn + j)))) count).0 e k lt in
       cc (sym no ∙ ap not hole)
   | inr e ↦ sym e
 ]
@@ -116,7 +120,8 @@ record-absent view index vcn some absent = elim (cases_Bool (is_index_record_at 
   | inr e ↦ ap (λ b. cond b (Some (opened_of (stored_index_record view index vcn))) None) e
 ]
 
-pub records-of : (view : VolumeView) (index : IndexParts) → 0 < cluster_bytes view.layout → AreRecordsOf view index (index_record_on view index)
+pub records-of : (view : VolumeView) (index : IndexParts) → 0 < cluster_bytes view.layout
+    → AreRecordsOf view index (index_record_on view index)
 records-of view index some = record {
   there = λ vcn is. record-there view index vcn some is;
   only = λ vcn told. elim (cases_Bool (is_index_record_at view index vcn)) [

@@ -1,5 +1,6 @@
 -- An index record that is there lies in clusters: neither in a record of its file, nor in a hole, nor outside. So it can be written.
-use Rattle.std.proofs.Common.{◌≡◌, ◌≢◌, ℕ, zero, suc, ◌+◌, ◌-◌, ◌*◌, ◌/◌, ◌%◌, ◌<◌, ◌≤◌, true, false, not, ◌||◌, Bool, cond, List, [], ◌∷◌, length, Option, Some, None, inl, inr, refl, sym, ap, subst, ◌∙◌, arith}
+use Rattle.std.proofs.Common.{◌≡◌, ◌≢◌, ℕ, zero, suc, ◌+◌, ◌-◌, ◌*◌, ◌/◌, ◌%◌, ◌<◌, ◌≤◌, true, false, not, ◌||◌, Bool, cond, List, [], ◌∷◌}
+use Rattle.std.proofs.Common.{length, Option, Some, None, inl, inr, refl, sym, ap, subst, ◌∙◌, arith}
 use Rattle.std.specs.Prelude.{Contains, IfSome, IsTrue, ◌==◌, ◌&&◌}
 use Rattle.std.proofs.lemmas.Bool.{and_left, cases_Bool, cases_lt, eqb-true, ne_eqb}
 use Rattle.std.proofs.lemmas.List.Elements.{All-contains}
@@ -10,7 +11,9 @@ use Rattle.ntfs_def.specs.declared.kinds.TheConstants.{DATA, END, INDEX_ALLOCATI
 use Rattle.ntfs_def.specs.declared.run_text.Run.{Run}
 use Rattle.ntfs_def.specs.declared.run_text.Spot.{Spot}
 use Rattle.ntfs_def.specs.declared.run_text.Spot.TheVariants.{At, Hole, Outside}
-use Rattle.ntfs_def.specs.Attribute.{Attribute, Body, ExtentHeader, NonResident, Resident, attribute_at, attribute_kind, attribute_len, attributes, attributes_from, content_bytes, content_end, content_offset, extent_at, is_resident, value_of}
+use Rattle.ntfs_def.specs.Attribute.{Attribute, Body, ExtentHeader, NonResident, Resident, attribute_at, attribute_kind, attribute_len}
+use Rattle.ntfs_def.specs.Attribute.{attributes, attributes_from, content_bytes, content_end, content_offset}
+use Rattle.ntfs_def.specs.Attribute.{extent_at, is_resident, value_of}
 use Rattle.ntfs_def.specs.Flags.{is_packed}
 use Rattle.ntfs_def.specs.Record.{first_place}
 use Rattle.ntfs_def.specs.Runs.{spot_in, spot_of, total_clusters}
@@ -24,7 +27,8 @@ use Rattle.list_laws.proofs.OptionLaws.{none_other, some_same}
 use Rattle.list_laws.proofs.PieceLaws.{slice_range-short}
 use Rattle.volume_def.specs.BitmapClauses.{written_by, written_in}
 use Rattle.volume_def.specs.ExtentsClause.{AreAttribute, FitExtents, bad_name, has_sizes, is_bad_stream}
-use Rattle.volume_def.specs.Files.{Clusters, Content, Part, Value, all_covered, content_extent, content_of, is_of, joined_runs, part_clusters, part_of, part_runs}
+use Rattle.volume_def.specs.Files.{Clusters, Content, Part, Value, all_covered, content_extent, content_of, is_of, joined_runs}
+use Rattle.volume_def.specs.Files.{part_clusters, part_of, part_runs}
 use Rattle.volume_def.specs.IndexesClause.{IsIndexRecordAt}
 use Rattle.volume_def.specs.Readable.{IsFile, IsReadableVolume}
 use Rattle.volume_def.specs.StreamSize.{IsFirstExtent, real_size}

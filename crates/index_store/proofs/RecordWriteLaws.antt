@@ -31,7 +31,8 @@ use Rattle.index_store.specs.Index.{HasParts, index_held}
 use Rattle.index_store.specs.IndexBlocks.{told_records}
 use Rattle.index_store.specs.IndexRecords.{index_record_on}
 use Rattle.index_store.specs.RecordWrites.{WritesRecord}
-use Rattle.index_store.proofs.PlacedRecords.{record-placed, records-below, records-extent, records-first, records-real, records-stream, records-written}
+use Rattle.index_store.proofs.PlacedRecords.{record-placed, records-below, records-extent, records-first}
+use Rattle.index_store.proofs.PlacedRecords.{records-real, records-stream, records-written}
 use Rattle.index_store.proofs.ToldLaws.{records-told, told-records}
 use Rattle.index_store.proofs.UsedRecord.{used-there}
 use Rattle.index_store.proofs.WrittenRecords.{record-now, record-other}

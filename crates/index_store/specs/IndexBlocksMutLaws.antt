@@ -1,5 +1,6 @@
 -- Records of an index that are read and written one call behind the other, and what each of them is.
-use Rattle.std.proofs.Common.{◌≡◌, ℕ, ◌+◌, ◌*◌, ◌-◌, ◌^◌, ◌≤◌, Bool, true, false, cond, List, [], ◌++◌, length, Option, Some, None, inl, inr, refl, sym, ap, subst, ◌∙◌, le_refl, length-append}
+use Rattle.std.proofs.Common.{◌≡◌, ℕ, ◌+◌, ◌*◌, ◌-◌, ◌^◌, ◌≤◌, Bool, true, false, cond, List, [], ◌++◌, length, Option, Some, None, inl}
+use Rattle.std.proofs.Common.{inr, refl, sym, ap, subst, ◌∙◌, le_refl, length-append}
 use Rattle.std.specs.Prelude.{◌⊎◌, Contains, IsTrue}
 use Rattle.std.specs.List.{flat_map}
 use Rattle.std.specs.Borrow.{Bor}
@@ -20,7 +21,8 @@ use Rattle.volume_def.specs.Table.{TableLayout, cluster_bytes}
 use Rattle.volume_def.specs.Values.{spot_at, value_on}
 use Rattle.volume_def.specs.View.{VolumeView}
 use Rattle.attr_store.specs.Clusters.{ChangesStream, record_sectors}
-use Rattle.attr_store.proofs.Below.{ChangesStream-none, ChangesStream-then, KeepsDisk-reads, KeepsDisk-then, MftReads-none, MftReads-then, view-kept}
+use Rattle.attr_store.proofs.Below.{ChangesStream-none, ChangesStream-then, KeepsDisk-reads, KeepsDisk-then}
+use Rattle.attr_store.proofs.Below.{MftReads-none, MftReads-then, view-kept}
 use Rattle.index_tree.specs.IndexNodeEdit.{IsOpened}
 use Rattle.attr_store.specs.Mft.{stage_of}
 use Rattle.attr_store.specs.Mounted.{mounted_layout}

@@ -1,5 +1,6 @@
 //! The records of one index of a file, read one by one.
-ghost use Rattle.std.specs.Prelude.{◌≡◌, ◌+◌, ◌*◌, ◌/◌, ◌%◌, ◌<◌, ◌≤◌, ◌^◌, ◌==◌, ℕ, IfErr, IfNone, IfOk, IfSome, IsSome, List, MatchResult, OnErr, OnOk, Some, length, slice_range};
+ghost use Rattle.std.specs.Prelude.{◌≡◌, ◌+◌, ◌*◌, ◌/◌, ◌%◌, ◌<◌, ◌≤◌, ◌^◌, ◌==◌, ℕ, IfErr, IfNone, IfOk, IfSome, IsSome, List};
+ghost use Rattle.std.specs.Prelude.{MatchResult, OnErr, OnOk, Some, length, slice_range};
 ghost use Rattle.list_laws.specs.Bits.{bit_in};
 ghost use Rattle.volume_def.specs.ExtentsClause.{AreAttribute};
 ghost use Rattle.volume_def.specs.Readable.{IsFile, WhereReadable};

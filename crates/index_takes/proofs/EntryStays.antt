@@ -32,10 +32,12 @@ root-in roots = option_and_then (λ part. option_and_then (short_node Names) (co
 abbrev entry-in : IndexParts → List ℕ → ℕ → (ℕ → ℕ) → List ℕ → Bool
 entry-in index value size fold units =
     option_map_or (λ vcn. has_entry_beside (λ key. compare_units fold (key_units key) units) (record-in size value vcn))
-    (leaf_of (λ key. compare_units fold (key_units key) units) (λ vcn. short_node Names (record-in size value vcn)) (root-in index.root)) false
+    (leaf_of (λ key. compare_units fold (key_units key) units) (λ vcn. short_node Names (record-in size value vcn)) (root-in index.root))
+    false
 
 entry-is : (view : VolumeView) (dir : ℕ) (units : List ℕ) → has_leaf_entry view dir units
-    ≡ entry-in (names_of_directory view dir) (value_on view (names_of_directory view dir).records) (cluster_bytes view.layout) (volume_fold view)
+    ≡ entry-in (names_of_directory view dir) (value_on view (names_of_directory view dir).records)
+    (cluster_bytes view.layout) (volume_fold view)
     units
 unfolding has_leaf_entry index_nodes
 entry-is view dir units = refl
@@ -61,7 +63,8 @@ abbrev root-entry-in : (ℕ → ℕ) → List Part → List ℕ → Bool
 root-entry-in fold all units =
     option_map_or (λ (said : Node). not (is_some said.last)) (root-in (names-in all)) false
     && not (list_any is_list all)
-    && option_map_or (λ (said : Node). hits_on (λ key. compare_units fold (key_units key) units) said.entries) (root-in (names-in all)) false
+    && option_map_or (λ (said : Node). hits_on (λ key. compare_units fold (key_units key) units) said.entries)
+    (root-in (names-in all)) false
 
 root-entry-is : (view : VolumeView) (dir : ℕ) (units : List ℕ)
     → has_root_entry view dir units ≡ root-entry-in (volume_fold view) (parts (records_of view) dir) units

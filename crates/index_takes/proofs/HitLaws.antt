@@ -6,7 +6,8 @@ use Rattle.ntfs_def.specs.Node.{Entry}
 use Rattle.index_node.specs.Seek.{IsPlace, StartsAt}
 use Rattle.tree_model.specs.LeafEntry.{hit_beside, hits_on}
 
-pub hits-at : (side : List ℕ → Ordering) (entries : List Entry) (i : ℕ) (hit : Bool) → IsPlace side entries i hit → hits_on side entries ≡ hit
+pub hits-at : (side : List ℕ → Ordering) (entries : List Entry) (i : ℕ) (hit : Bool) → IsPlace side entries i hit
+    → hits_on side entries ≡ hit
 hits-at side [] zero hit place = sym place.there
 hits-at side [] (suc i) hit place = absurd (let w = place.within in omega (arith, w))
 hits-at side (e ∷ entries) zero hit place = by hit place.there

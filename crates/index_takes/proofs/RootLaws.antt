@@ -27,7 +27,8 @@ use Rattle.index_puts.proofs.HeldLaws.{each-of, one-root, root-value, same-parts
 use Rattle.tree_model.specs.LeafEntry.{hits_on}
 use Rattle.tree_model.specs.RootEntry.{has_root_entry, is_in_root}
 
-module _ (view : VolumeView) (file : FileParts) (table : List ℕ) (items : List Item) (held : IsHeldWith view file table items) (key : List ℕ)
+module _ (view : VolumeView) (file : FileParts) (table : List ℕ) (items : List Item)
+    (held : IsHeldWith view file table items) (key : List ℕ)
     (index : FoundIndex) (found : IsFound file index) (named : index.name.now ≡ wide (codes "$I30")) where
   abbrev dir : ℕ
   dir = file_number file

@@ -1,12 +1,15 @@
 -- A root from which an entry was taken, and which was made shorter by it, says the others.
-use Rattle.std.proofs.Common.{◌≡◌, ◌≢◌, ℕ, ◌+◌, ◌-◌, ◌%◌, ◌==◌, ◌<◌, ◌≤◌, List, ◌++◌, Some, None, false, length, remove, slice_index, suc, take, sym, ap, subst, ◌∙◌, arith}
+use Rattle.std.proofs.Common.{◌≡◌, ◌≢◌, ℕ, ◌+◌, ◌-◌, ◌%◌, ◌==◌, ◌<◌, ◌≤◌, List, ◌++◌, Some, None, false, length, remove, slice_index, suc}
+use Rattle.std.proofs.Common.{take, sym, ap, subst, ◌∙◌, arith}
 use Rattle.std.specs.Prelude.{IsTrue, nat_eq, codes, slice_index_or}
 use Rattle.std.specs.List.{starts_with}
 use Rattle.std.proofs.lemmas.Bool.{le-leb, leb-true}
 use Rattle.std.proofs.lemmas.List.{get_or-take, length-take-le}
 use Rattle.vol_bytes.specs.Field.{SameOutside, u32_at}
 use Rattle.vol_bytes.proofs.FieldLaws.{u32_at-same}
-use Rattle.ntfs_def.specs.Node.{Entry, IsWholeEntry, Node, child_len, entries_end, entry_len, entry_place, first_entry, first_offset, has_children, is_entry, is_last_entry, item_at, most_len, node_header, node_header_failing, node_in, room_end, short_node}
+use Rattle.ntfs_def.specs.Node.{Entry, IsWholeEntry, Node, child_len, entries_end, entry_len, entry_place, first_entry, first_offset}
+use Rattle.ntfs_def.specs.Node.{has_children, is_entry, is_last_entry, item_at, most_len, node_header, node_header_failing}
+use Rattle.ntfs_def.specs.Node.{node_in, room_end, short_node}
 use Rattle.ntfs_def.specs.declared.index.NodeForm.TheVariants.{Names}
 use Rattle.index_node.specs.Edit.{Becomes, HasEntry, HasSpan, item_len, without_entry}
 use Rattle.index_node.specs.LayOut.{AreEntries, HoldsPieces, total_len}
@@ -16,7 +19,8 @@ use Rattle.index_node.proofs.FoundLaws.{HasAt, HasFirst, has_at, has_first}
 use Rattle.index_node.proofs.LayOutLaws.{has_array, right_of as is_right, six_right}
 use Rattle.index_node.proofs.LenLaws.{keeps_first}
 use Rattle.index_node.proofs.NodeLaws.{entry_place-next, get_or-entries_from, place_whole}
-use Rattle.index_node.proofs.PieceLaws.{before_total, from_entries, from_holds, from_said, from_short, from_total, pieces_before, place-place, total-++}
+use Rattle.index_node.proofs.PieceLaws.{before_total, from_entries, from_holds, from_said, from_short, from_total}
+use Rattle.index_node.proofs.PieceLaws.{pieces_before, place-place, total-++}
 use Rattle.index_node.proofs.ReplaceLaws.{item_len-at}
 use Rattle.index_node.proofs.RootLaws.{not_record, root_header}
 use Rattle.index_node.proofs.SpanLaws.{count_said, inner_in, place_low}
@@ -54,7 +58,8 @@ module _ (old new : List ℕ) (i at behind fin : ℕ) (h : HasSpan Names old i a
 
   first_off_same : first_offset new ≡ first_offset old
   first_off_same =
-      ap (u32_at new) header_new ∙ u32_at-same old new 0x10 (λ k from to. tight.low k (omega (arith, to))) ∙ ap (u32_at old) (sym header_old)
+      ap (u32_at new) header_new ∙ u32_at-same old new 0x10 (λ k from to. tight.low k (omega (arith, to)))
+      ∙ ap (u32_at old) (sym header_old)
 
   first_same : first_entry new ≡ first_entry old
   first_same = let a = header_new in let b = header_old in let o = first_off_same in omega (arith, a, b, o)
@@ -147,7 +152,8 @@ module _ (old : List ℕ) (i : ℕ) (entry : HasEntry Names old i) (leaf : has_c
   its-len said is d =
       let long = item_len-at old (has_children old) (entries_end old) (entry_place old (first_entry old) i) (whole i span.within) inside in
       let none : child_len (has_children old) ≡ 0 = ap child_len leaf in
-      let one : item_len (slice_index_or said.entries i d).item ≡ item_len (item_at old (has_children old) (entry_place old (first_entry old) i)) =
+      let one : item_len (slice_index_or said.entries i d).item
+      ≡ item_len (item_at old (has_children old) (entry_place old (first_entry old) i)) =
       ap (λ (n : Node). item_len (slice_index_or n.entries i d).item)
       (sym (said_facts Names old i found.at found.behind found.end span said is))
       ∙ ap (λ (x : Entry). item_len x.item) (get_or-entries_from old (has_children old) (first_entry old) span.count i d inner) in
@@ -191,7 +197,8 @@ module _ (old : List ℕ) (i : ℕ) (entry : HasEntry Names old i) (leaf : has_c
 
     left-is : left ≡ before ++ behind
     left-is =
-        ap (pieces_from mid (first_entry mid)) (sym (count_said Names mid 0 (first_entry mid) first.behind first.end first.span rest mid-said))
+        ap (pieces_from mid (first_entry mid))
+        (sym (count_said Names mid 0 (first_entry mid) first.behind first.end first.span rest mid-said))
         ∙ edits entry.said rest entry.is mid-said
         ∙ ap (λ n. remove (pieces_from old (first_entry old) n) i)
         (count_said Names old i found.at found.behind found.end span entry.said entry.is)

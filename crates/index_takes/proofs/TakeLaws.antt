@@ -1,5 +1,6 @@
 -- An item that goes out of the leaf of its key: the index has all others.
-use Rattle.std.proofs.Common.{◌≡◌, ℕ, zero, suc, ◌+◌, ◌-◌, ◌<◌, ◌≤◌, Bool, true, List, [], ◌∷◌, ◌++◌, remove, Option, Some, None, length, refl, sym, ap, subst, ◌∙◌, arith, append_assoc}
+use Rattle.std.proofs.Common.{◌≡◌, ℕ, zero, suc, ◌+◌, ◌-◌, ◌<◌, ◌≤◌, Bool, true, List, [], ◌∷◌, ◌++◌, remove, Option, Some, None, length}
+use Rattle.std.proofs.Common.{refl, sym, ap, subst, ◌∙◌, arith, append_assoc}
 use Rattle.std.proofs.Math.Path.{fun_ext}
 use Rattle.std.specs.Prelude.{IsTrue, slice_index_or}
 use Rattle.std.specs.Option.{option_and_then, option_map_or}
@@ -63,7 +64,8 @@ cut-through order key depth on i s cuts =
     }
 
 -- what ascends, and what is valid, without one
-pub ascends-cut : (order : List ℕ → List ℕ → Ordering) (laws : IsOrder order) (x : Item) (old new : List Item) → IsCut x old new → Ascends order old
+pub ascends-cut : (order : List ℕ → List ℕ → Ordering) (laws : IsOrder order) (x : Item) (old new : List Item)
+    → IsCut x old new → Ascends order old
     → Ascends order new
 ascends-cut order laws x old new c h =
     subst (Ascends order) (sym c.now) (Ascends-without order laws c.front x c.back (subst (Ascends order) c.was h))
@@ -75,7 +77,8 @@ each-cut P x old new c h =
 
 -- In a leaf nothing leads to a child, so nothing is given back.
 
-leads-none : (depth : ℕ) (s : Spread (Tree depth)) (i j : ℕ) → child_of_node (node_of depth s) i ≡ None → child_of_node (node_of depth s) j ≡ None
+leads-none : (depth : ℕ) (s : Spread (Tree depth)) (i j : ℕ) → child_of_node (node_of depth s) i ≡ None
+    → child_of_node (node_of depth s) j ≡ None
 leads-none zero s i j e = child_below (child_of zero) s.branches s.last j
 leads-none (suc depth) s i j e = absurd (none_other (sym e ∙ child_below (child_of (suc depth)) s.branches s.last i))
 
@@ -122,7 +125,8 @@ module _ (order : List ℕ → List ℕ → Ordering) (valid : List ℕ → Bool
       let next : child_of_node node (i + 1) ≡ None = ap (child_of_node node) (sym more) ∙ behind in
       let least : TakesLeast nodes nodes (child_of_node node (i + 1)) None =
       subst (λ c. TakesLeast nodes nodes c None) (sym next) (least_nothing nodes) in
-      let given : GivesBack nodes' nodes' (child_of_node node (i + 1)) = subst (GivesBack nodes' nodes') (sym next) (gives-nothing nodes') in
+      let given : GivesBack nodes' nodes' (child_of_node node (i + 1)) =
+      subst (GivesBack nodes' nodes') (sym next) (gives-nothing nodes') in
       let written : nodes' ≡ with_node nodes leaf (joined node i (child_of_node node i)) =
       fun_ext (λ at. now at ∙ ap (λ n. with_node nodes leaf n at) (sym (joined-leaf node i within ends behind))) in
       let here : Becomes nodes nodes' (suc depth) t (Some leaf) None (CutsAt node i) =
@@ -151,7 +155,8 @@ module _ (order : List ℕ → List ℕ → Ordering) (valid : List ℕ → Bool
       grow_none nodes nodes' depth t (Some vcn) sorted.held j (CutsKey order key) (CutsKey order key)
       (λ s. cut-through order key depth t.spread j s)
       (at_place depth (below_at t.spread.branches t.spread.last j)
-      (below_sound order valid laws nodes depth t.spread (node_of depth t.spread) (spread_of order valid nodes depth t (Some vcn) sorted) j))
+      (below_sound order valid laws nodes depth t.spread (node_of depth t.spread)
+      (spread_of order valid nodes depth t (Some vcn) sorted) j))
 
   -- out of the tree below a record
   step : (level vcn : ℕ) → HasSorted order valid nodes (Some vcn) (suc level) → (said : Node) → nodes vcn ≡ Some said
@@ -177,7 +182,8 @@ module _ (order : List ℕ → List ℕ → Ordering) (valid : List ℕ → Bool
           kept vcn said read at.at
           (subst (λ c. TakesBelow order valid nodes nodes' c key) (sym same)
           (next child
-          (subst (λ l. HasSorted order valid nodes (Some child) l) less (subst (λ c. HasSorted order valid nodes c (suc level - 1)) same lower))
+          (subst (λ l. HasSorted order valid nodes (Some child) l) less
+          (subst (λ c. HasSorted order valid nodes c (suc level - 1)) same lower))
           (way (Some child) e)))
 
   -- out of the tree under a record
@@ -202,7 +208,8 @@ module _ (order : List ℕ → List ℕ → Ordering) (valid : List ℕ → Bool
         by None e = absurd (none_other (sym (ap (option_and_then (leaf_under side nodes 15)) e) ∙ is))
         by (Some child) e =
             let found = some_place side root.entries in
-            let same : child_of_node root at_i ≡ Some child = sym (child_on-at side root.entries root.last at_i found.hit found.place) ∙ e in
+            let same : child_of_node root at_i ≡ Some child =
+            sym (child_on-at side root.entries root.last at_i found.hit found.place) ∙ e in
             let can : HasSorted order valid nodes (child_of_node root at_i) 15 = record {
               depth = depth;
               small = small;

@@ -33,7 +33,8 @@ module _ (order : List ℕ → List ℕ → Ordering) (key : List ℕ) (r : ℕ 
   pub leaf-missing : ReadsLeaf r (leaf_of side (short_nodes Names r) root) None block → IsTrue (entry_under side r root) → ⊥
   leaf-missing reads entry = true≢false (sym (no-leaf reads ∙ entry))
 
-  module _ (leaf : Leaf) (reads : ReadsLeaf r (leaf_of side (short_nodes Names r) root) (Some leaf) block) (ends : EndsIn order key block leaf) where
+  module _ (leaf : Leaf) (reads : ReadsLeaf r (leaf_of side (short_nodes Names r) root) (Some leaf) block)
+      (ends : EndsIn order key block leaf) where
     -- the bytes that were read say a node
     pub leaf-node : (said : Node) × (short_node Names block ≡ Some said)
     leaf-node =
@@ -67,7 +68,8 @@ module _ (order : List ℕ → List ℕ → Ordering) (key : List ℕ) (r : ℕ 
     leaf-missed missed =
         missed
         ∙ ap (λ b. b && nat_le 2 (length said.entries)) (sym missed)
-        ∙ leaf-entry (nat_le 2 (length said.entries)) (λ n is. ap (λ (m : Node). nat_le 2 (length m.entries)) (some_same (sym is-node ∙ is)))
+        ∙ leaf-entry (nat_le 2 (length said.entries))
+        (λ n is. ap (λ (m : Node). nat_le 2 (length m.entries)) (some_same (sym is-node ∙ is)))
 
     -- where there is one, the search hit it
     parts : IsTrue (entry_under side r root) → IsTrue (hits_on side said.entries) × IsTrue (nat_le 2 (length said.entries))
@@ -81,7 +83,8 @@ module _ (order : List ℕ → List ℕ → Ordering) (key : List ℕ) (r : ℕ 
 
     -- IT WAS TAKEN OUT, and the record was written
     module _ (valid : List ℕ → Bool) (laws : IsOrder order) (place_law : SealedPlace) (short_law : SealedShort)
-        (entry : IsTrue (entry_under side r root)) (now : List ℕ) (becomes : Becomes Names block now (λ said. without_entry said leaf.place))
+        (entry : IsTrue (entry_under side r root)) (now : List ℕ)
+        (becomes : Becomes Names block now (λ said. without_entry said leaf.place))
         (long : length now ≡ 4096) (r' : ℕ → Option (List ℕ)) (writes : Writes leaf.vcn now r r') where
       there : short_nodes Names r leaf.vcn ≡ Some said
       there = ap (option_and_then (short_node Names)) reads.bytes ∙ leaf-node.1

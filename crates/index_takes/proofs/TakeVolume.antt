@@ -44,7 +44,8 @@ one-item : (fold : ℕ → ℕ) (key : List ℕ) (all : List Item) (a b : Item) 
     → name_order fold a.key key ≡ Equal → name_order fold b.key key ≡ Equal → a ≡ b
 one-item fold key all a b ascends has_a has_b a_is b_is =
     let same : key_units a.key ≡ key_units b.key = (name_ties fold a.key key).0 a_is ∙ sym ((name_ties fold b.key key).0 b_is) in
-    one-of-key (name_order fold) all a b ascends has_a has_b ((name_ties fold a.key b.key).1 same) ((name_ties fold b.key a.key).1 (sym same))
+    one-of-key (name_order fold) all a b ascends has_a has_b ((name_ties fold a.key b.key).1 same)
+    ((name_ties fold b.key a.key).1 (sym same))
 
 module _ (old new : VolumeView) (dir : ℕ) (key : List ℕ) (takes : TakesItem old new dir key) where
   -- there was one

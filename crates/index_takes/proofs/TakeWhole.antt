@@ -31,7 +31,8 @@ use Rattle.index_takes.proofs.TakeItems.{cut-now, depth-now, items-now, now}
 module _ (old new : VolumeView) (file : FileParts) (table key : List ℕ) (holds : HoldsItems old file table)
     (owners : HasOwners old) (some : 0 < cluster_bytes old.layout) (index : FoundIndex) (found : IsFound file index)
     (named : index.name.now ≡ wide (codes "$I30"))
-    (from : TakesFrom (name_order (fold_of table)) is_name_key old new (index_held file index.name.now) (short_node Names index.root.now) key)
+    (from : TakesFrom (name_order (fold_of table)) is_name_key old new (index_held file index.name.now)
+    (short_node Names index.root.now) key)
     (changed : ChangesStream old new (spot_at (index_held file index.name.now).records)) where
   abbrev dir : ℕ
   dir = file_number file

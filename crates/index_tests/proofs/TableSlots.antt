@@ -1,5 +1,6 @@
 -- Slots of records: one is written, one is put behind all.
-use Rattle.std.proofs.Common.{◌≡◌, ◌≢◌, ◌⊎◌, ℕ, zero, suc, ◌+◌, ◌<◌, ◌≤◌, List, [], ◌∷◌, ◌++◌, Option, Some, None, IsSome, inl, inr, length, set, refl, sym, ap, subst, ◌∙◌, arith}
+use Rattle.std.proofs.Common.{◌≡◌, ◌≢◌, ◌⊎◌, ℕ, zero, suc, ◌+◌, ◌<◌, ◌≤◌, List, [], ◌∷◌, ◌++◌, Option, Some, None, IsSome, inl, inr, length}
+use Rattle.std.proofs.Common.{set, refl, sym, ap, subst, ◌∙◌, arith}
 use Rattle.std.proofs.lemmas.Bool.Decides.{eqb_tells}
 use Rattle.vol_bytes.specs.Field.{SameOutside}
 use Rattle.ntfs_def.specs.Fixup.{array_end, array_place}
@@ -35,7 +36,8 @@ push_same [] x (suc vcn) e = absurd (omega arith)
 push_same (s ∷ slots) x zero e = absurd (omega arith)
 push_same (s ∷ slots) x (suc vcn) e = push_same slots x vcn (omega arith)
 
-push_other : (slots : Slots) (x : Option (List ℕ)) (place : ℕ) → place ≢ length slots → slot_at (slots ++ x ∷ []) place ≡ slot_at slots place
+push_other : (slots : Slots) (x : Option (List ℕ)) (place : ℕ) → place ≢ length slots
+    → slot_at (slots ++ x ∷ []) place ≡ slot_at slots place
 push_other [] x zero ne = absurd (ne refl)
 push_other [] x (suc place) ne = refl
 push_other (s ∷ slots) x zero ne = refl
@@ -64,7 +66,8 @@ pub slots_opened : (slots : Slots) (vcn : ℕ) (from : List ℕ) → vcn < lengt
     → ((v : ℕ) (bytes : List ℕ) → slot_at slots v ≡ Some bytes → IsOpened v bytes)
     → (v : ℕ) (bytes : List ℕ) → slot_at (set slots vcn (Some from)) v ≡ Some bytes → IsOpened v bytes
 slots_opened slots vcn from lt opened all v bytes is = elim (eqb_tells v vcn) [
-  | inl e ↦ (let same : from ≡ bytes = some_same (sym (set_same slots vcn (Some from) lt) ∙ ap (slot_at (set slots vcn (Some from))) (sym e.1) ∙ is) in
+  | inl e ↦ (let same : from ≡ bytes =
+      some_same (sym (set_same slots vcn (Some from) lt) ∙ ap (slot_at (set slots vcn (Some from))) (sym e.1) ∙ is) in
       subst (IsOpened v) same (subst (λ n. IsOpened n from) (sym e.1) opened))
   | inr e ↦ all v bytes (sym (set_other slots vcn v (Some from) e.1) ∙ is)
 ]

@@ -1,5 +1,6 @@
 -- What edits of records do to the nodes that they say.
-use Rattle.std.proofs.Common.{◌≡◌, ◌≢◌, ℕ, List, Option, Some, None, [], IsSome, Bool, true, false, inl, inr, length, refl, sym, ap, subst, ◌∙◌}
+use Rattle.std.proofs.Common.{◌≡◌, ◌≢◌, ℕ, List, Option, Some, None, [], IsSome, Bool, true, false, inl, inr, length, refl, sym}
+use Rattle.std.proofs.Common.{ap, subst, ◌∙◌}
 use Rattle.std.specs.Prelude.{if◌then◌else◌, ◌==◌}
 use Rattle.std.specs.Option.{option_and_then}
 use Rattle.std.proofs.lemmas.Bool.Decides.{eqb_tells}
@@ -31,7 +32,8 @@ short_in form bytes n h = go (node_in form bytes) refl h
     pick false m e = absurd (none_other e)
 
     go : (o : Option Node) → node_in form bytes ≡ o
-        → option_and_then (λ (said : Node). if are_short bytes (length said.entries) then Some said else None) o ≡ Some n → node_in form bytes ≡ Some n
+        → option_and_then (λ (said : Node). if are_short bytes (length said.entries) then Some said else None) o ≡ Some n
+        → node_in form bytes ≡ Some n
     go None e k = absurd (none_other k)
     go (Some m) e k = e ∙ ap (λ x. Some x) (pick (are_short bytes (length m.entries)) m k)
 
@@ -44,7 +46,8 @@ apart_of form bytes some len = by (node_in form bytes) refl
     by None is = absurd (none_not_some (node_in form bytes) is some)
 
 -- where the records are told after an edit, they were told before it
-pub edits_after : {old new : Option Records} {Change : Records → Records → Type 0} → Edits old new Change → (after : Records) → new ≡ Some after
+pub edits_after : {old new : Option Records} {Change : Records → Records → Type 0} → Edits old new Change
+    → (after : Records) → new ≡ Some after
     → (r : Records) × (old ≡ Some r) × Change r after
 edits_after {old} {new} {Change} e after is =
     let b = e.back after is in
@@ -61,7 +64,8 @@ SealedShort = (form : NodeForm) (old new : List ℕ) → HasArrayApart old → S
 
 module _ (place_law : SealedPlace) (short_law : SealedShort) (form : NodeForm) where
   -- a record that was written says the node
-  pub wrote : (vcn : ℕ) (from : List ℕ) (r r' : Records) → Writes vcn from r r' → length from ≡ 4096 → (n : Node) → short_node form from ≡ Some n
+  pub wrote : (vcn : ℕ) (from : List ℕ) (r r' : Records) → Writes vcn from r r' → length from ≡ 4096 → (n : Node)
+      → short_node form from ≡ Some n
       → (place : ℕ) → short_nodes form r' place ≡ with_node (short_nodes form r) vcn n place
   wrote vcn from r r' w len n is place = elim (eqb_tells place vcn) [
     | inl e ↦
@@ -88,13 +92,16 @@ module _ (place_law : SealedPlace) (short_law : SealedShort) (form : NodeForm) w
         wrote vcn right r2 r3 w' len_right (right_of p.at n) p.is_right place
         ∙ same_else (short_nodes form r2) (with_node (short_nodes form r) new (left_of p.at n)) vcn (right_of p.at n) place
         (λ q. wrote new left r1 r2 w len_left (left_of p.at n) p.is_left q
-        ∙ same_at (short_nodes form r1) (short_nodes form r) new (left_of p.at n) q (λ ne. ap (option_and_then (short_node form)) (takes.others q ne)));
+        ∙ same_at (short_nodes form r1) (short_nodes form r) new (left_of p.at n) q
+        (λ ne. ap (option_and_then (short_node form)) (takes.others q ne)));
   }
     where
-      same_else : (a b : ℕ → Option Node) (v : ℕ) (m : Node) (place : ℕ) → ((q : ℕ) → a q ≡ b q) → with_node a v m place ≡ with_node b v m place
+      same_else : (a b : ℕ → Option Node) (v : ℕ) (m : Node) (place : ℕ) → ((q : ℕ) → a q ≡ b q)
+          → with_node a v m place ≡ with_node b v m place
       same_else a b v m place h = ap (λ o. if place == v then Some m else o) (h place)
 
-      same_at : (a b : ℕ → Option Node) (v : ℕ) (m : Node) (place : ℕ) → (place ≢ v → a place ≡ b place) → with_node a v m place ≡ with_node b v m place
+      same_at : (a b : ℕ → Option Node) (v : ℕ) (m : Node) (place : ℕ) → (place ≢ v → a place ≡ b place)
+          → with_node a v m place ≡ with_node b v m place
       same_at a b v m place h = elim (eqb_tells place v) [
         | inl e ↦ ap (with_node a v m) e.1 ∙ with_node-same a v m ∙ sym (ap (with_node b v m) e.1 ∙ with_node-same b v m)
         | inr e ↦ with_node-other a v m place e.1 ∙ h e.1 ∙ sym (with_node-other b v m place e.1)

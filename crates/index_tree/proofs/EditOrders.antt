@@ -55,27 +55,35 @@ module _ (order : List ℕ → List ℕ → Ordering) (laws : IsOrder order) whe
   high_through a b xs h e = Each-map (High b) (High a) (λ x p. laws.trans a b x.key e p) xs h
 
   -- an item more in an ascending list, at its place
-  pub Ascends-with : (xs : List Item) (y : Item) (ys : List Item) → Ascends order (xs ++ ys) → Each (Low y.key) xs → Each (High y.key) ys → Ascends order (xs ++ y ∷ ys)
+  pub Ascends-with : (xs : List Item) (y : Item) (ys : List Item) → Ascends order (xs ++ ys) → Each (Low y.key) xs → Each (High y.key) ys
+      → Ascends order (xs ++ y ∷ ys)
   Ascends-with [] y ys h low high = (high, h)
-  Ascends-with (x ∷ xs) y ys h low high =
-      (Each-++ (High x.key) xs (y ∷ ys) (Each-left (High x.key) xs ys h.0) (low.0, Each-right (High x.key) xs ys h.0), Ascends-with xs y ys h.1 low.1 high)
+  Ascends-with (x ∷ xs) y ys h low high = (
+    Each-++ (High x.key) xs (y ∷ ys) (Each-left (High x.key) xs ys h.0) (low.0, Each-right (High x.key) xs ys h.0),
+    Ascends-with xs y ys h.1 low.1 high,
+  )
 
   pub Ascends-without : (xs : List Item) (y : Item) (ys : List Item) → Ascends order (xs ++ y ∷ ys) → Ascends order (xs ++ ys)
   Ascends-without [] y ys h = h.1
-  Ascends-without (x ∷ xs) y ys h =
-      (Each-++ (High x.key) xs ys (Each-left (High x.key) xs (y ∷ ys) h.0) (Each-right (High x.key) xs (y ∷ ys) h.0).1, Ascends-without xs y ys h.1)
+  Ascends-without (x ∷ xs) y ys h = (
+    Each-++ (High x.key) xs ys (Each-left (High x.key) xs (y ∷ ys) h.0) (Each-right (High x.key) xs (y ∷ ys) h.0).1,
+    Ascends-without xs y ys h.1,
+  )
 
   pub Ascends-put : {item : Item} {old new : List Item} → IsPut order item old new → Ascends order old → Ascends order new
   Ascends-put {item} p h = subst (Ascends order) (sym p.now) (Ascends-with p.front item p.back (subst (Ascends order) p.was h) p.low p.high)
 
   -- a put in the middle
-  pub put_within : (item : Item) (before behind old new : List Item) → Each (Low item.key) before → Each (High item.key) behind → IsPut order item old new
+  pub put_within : (item : Item) (before behind old new : List Item) → Each (Low item.key) before → Each (High item.key) behind
+      → IsPut order item old new
       → IsPut order item (before ++ (old ++ behind)) (before ++ (new ++ behind))
   put_within item before behind old new low high p = record {
     front = before ++ p.front;
     back = p.back ++ behind;
-    was = ap (λ x. before ++ (x ++ behind)) p.was ∙ ap (λ x. before ++ x) (append_assoc p.front p.back behind) ∙ sym (append_assoc before p.front (p.back ++ behind));
-    now = ap (λ x. before ++ (x ++ behind)) p.now ∙ ap (λ x. before ++ x) (append_assoc p.front (item ∷ p.back) behind) ∙ sym (append_assoc before p.front (item ∷ p.back ++ behind));
+    was = ap (λ x. before ++ (x ++ behind)) p.was ∙ ap (λ x. before ++ x) (append_assoc p.front p.back behind)
+        ∙ sym (append_assoc before p.front (p.back ++ behind));
+    now = ap (λ x. before ++ (x ++ behind)) p.now ∙ ap (λ x. before ++ x) (append_assoc p.front (item ∷ p.back) behind)
+        ∙ sym (append_assoc before p.front (item ∷ p.back ++ behind));
     low = Each-++ (Low item.key) before p.front low p.low;
     high = Each-++ (High item.key) p.back behind p.high high;
   }
@@ -97,9 +105,11 @@ module _ (order : List ℕ → List ℕ → Ordering) (laws : IsOrder order) whe
     behind_high [] last i h k = tt
     behind_high (b ∷ bs) last zero h k =
         let e : order key b.item.key ≡ Less = laws.turn b.item.key key k in
-        let rest : Ascends order (b.item ∷ branch_items items bs last) = Ascends-right (items b.below) (b.item ∷ branch_items items bs last) h in
+        let rest : Ascends order (b.item ∷ branch_items items bs last) =
+        Ascends-right (items b.below) (b.item ∷ branch_items items bs last) h in
         (e, high_through key b.item.key (branch_items items bs last) rest.0 e)
-    behind_high (b ∷ bs) last (suc i) h k = behind_high bs last i (Ascends-right (items b.below) (b.item ∷ branch_items items bs last) h).1 k
+    behind_high (b ∷ bs) last (suc i) h k =
+        behind_high bs last i (Ascends-right (items b.below) (b.item ∷ branch_items items bs last) h).1 k
 
 -- an item with an equal key stands in the middle, where what is before is below the key and what is behind above
 module _ (order : List ℕ → List ℕ → Ordering) (laws : IsOrder order) (key : List ℕ) where
@@ -118,16 +128,21 @@ module _ (order : List ℕ → List ℕ → Ordering) (laws : IsOrder order) (ke
   rest_same : {x y : Item} {xs ys : List Item} → x ∷ xs ≡ y ∷ ys → xs ≡ ys
   rest_same e = cc
 
-  in_front : (mid behind : List Item) → Each (High order laws key) behind → (x : Item) (front back : List Item) → mid ++ behind ≡ front ++ (x ∷ back) → order x.key key ≡ Equal → IsAt order key mid x
-  in_front [] behind high x front back e equal = absurd (high_equal x (Each-mid (High order laws key) front x back (subst (Each (High order laws key)) e high)) equal)
+  in_front : (mid behind : List Item) → Each (High order laws key) behind → (x : Item) (front back : List Item)
+      → mid ++ behind ≡ front ++ (x ∷ back) → order x.key key ≡ Equal → IsAt order key mid x
+  in_front [] behind high x front back e equal =
+      absurd (high_equal x (Each-mid (High order laws key) front x back (subst (Each (High order laws key)) e high)) equal)
   in_front (m ∷ mid) behind high x [] back e equal =
       record { front = []; back = mid; whole = ap (λ y. y ∷ mid) (first_same e); equal = equal }
   in_front (m ∷ mid) behind high x (f ∷ front) back e equal =
       let r : IsAt order key mid x = in_front mid behind high x front back (rest_same e) equal in
       record { front = m ∷ r.front; back = r.back; whole = ap (λ ys. m ∷ ys) r.whole; equal = r.equal }
 
-  pub at_middle : (before mid behind : List Item) → Each (Low order laws key) before → Each (High order laws key) behind → (x : Item) (front back : List Item)
+  pub at_middle : (before mid behind : List Item) → Each (Low order laws key) before → Each (High order laws key) behind
+      → (x : Item) (front back : List Item)
       → before ++ (mid ++ behind) ≡ front ++ (x ∷ back) → order x.key key ≡ Equal → IsAt order key mid x
   at_middle [] mid behind low high x front back e equal = in_front mid behind high x front back e equal
-  at_middle (b ∷ before) mid behind low high x [] back e equal = absurd (less_equal (sym low.0 ∙ ap (λ (y : Item). order y.key key) (first_same e) ∙ equal))
-  at_middle (b ∷ before) mid behind low high x (f ∷ front) back e equal = at_middle before mid behind low.1 high x front back (rest_same e) equal
+  at_middle (b ∷ before) mid behind low high x [] back e equal =
+      absurd (less_equal (sym low.0 ∙ ap (λ (y : Item). order y.key key) (first_same e) ∙ equal))
+  at_middle (b ∷ before) mid behind low high x (f ∷ front) back e equal =
+      at_middle before mid behind low.1 high x front back (rest_same e) equal

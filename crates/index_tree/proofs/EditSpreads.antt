@@ -1,5 +1,6 @@
 -- Sketch.
-use Rattle.std.proofs.Common.{◌≡◌, ℕ, zero, suc, ◌+◌, ◌<◌, ◌≤◌, List, [], ◌∷◌, ◌++◌, Option, length, map, take, drop, insert, get_or, refl, sym, ap, ◌∙◌, arith, append_assoc, append-nil}
+use Rattle.std.proofs.Common.{◌≡◌, ℕ, zero, suc, ◌+◌, ◌<◌, ◌≤◌, List, [], ◌∷◌, ◌++◌, Option, length, map, take, drop, insert, get_or, refl}
+use Rattle.std.proofs.Common.{sym, ap, ◌∙◌, arith, append_assoc, append-nil}
 use Rattle.ntfs_def.specs.Node.{Entry, Item, child_from}
 use Rattle.ntfs_def.specs.IndexTree.{Branch, Spread, branch_items, branch_times, EachBelow}
 use Rattle.index_tree.specs.Edit.{below_at, graft_branches, graft_last}
@@ -31,7 +32,8 @@ module _ {T : Type 0} where
       → branch_items items (ls ++ b ∷ bs) last ≡ branch_items items ls b.below ++ b.item ∷ branch_items items bs last
   items-append items [] b bs last = refl
   items-append items (a ∷ ls) b bs last =
-      ap (λ xs. items a.below ++ a.item ∷ xs) (items-append items ls b bs last) ∙ sym (append_assoc (items a.below) (a.item ∷ branch_items items ls b.below) (b.item ∷ branch_items items bs last))
+      ap (λ xs. items a.below ++ a.item ∷ xs) (items-append items ls b bs last)
+      ∙ sym (append_assoc (items a.below) (a.item ∷ branch_items items ls b.below) (b.item ∷ branch_items items bs last))
 
   pub times-append : (times : T → ℕ) (ls : List (Branch T)) (b : Branch T) (bs : List (Branch T)) (last : T)
       → branch_times times (ls ++ b ∷ bs) last ≡ branch_times times ls b.below + branch_times times bs last
@@ -58,15 +60,19 @@ module _ {T : Type 0} where
   items_split items [] last i = sym (append-nil (items last))
   items_split items (b ∷ bs) last zero = refl
   items_split items (b ∷ bs) last (suc i) =
-      ap (λ xs. items b.below ++ b.item ∷ xs) (items_split items bs last i) ∙ sym (append_assoc (items b.below) (b.item ∷ before_items items bs i) (items (below_at bs last i) ++ behind_items items bs last i))
+      ap (λ xs. items b.below ++ b.item ∷ xs) (items_split items bs last i)
+      ∙ sym (append_assoc (items b.below) (b.item ∷ before_items items bs i)
+      (items (below_at bs last i) ++ behind_items items bs last i))
 
   pub items_graft : (items : T → List Item) (bs : List (Branch T)) (last : T) (i : ℕ) (s : Spread T)
-      → branch_items items (graft_branches bs i s) (graft_last bs last i s) ≡ before_items items bs i ++ (branch_items items s.branches s.last ++ behind_items items bs last i)
+      → branch_items items (graft_branches bs i s) (graft_last bs last i s)
+      ≡ before_items items bs i ++ (branch_items items s.branches s.last ++ behind_items items bs last i)
   items_graft items [] last i s = sym (append-nil (branch_items items s.branches s.last))
   items_graft items (b ∷ bs) last zero s = items-append items s.branches (record { below = s.last; item = b.item }) bs last
   items_graft items (b ∷ bs) last (suc i) s =
       ap (λ xs. items b.below ++ b.item ∷ xs) (items_graft items bs last i s)
-      ∙ sym (append_assoc (items b.below) (b.item ∷ before_items items bs i) (branch_items items s.branches s.last ++ behind_items items bs last i))
+      ∙ sym (append_assoc (items b.below) (b.item ∷ before_items items bs i)
+      (branch_items items s.branches s.last ++ behind_items items bs last i))
 
   pub times_split : (times : T → ℕ) (bs : List (Branch T)) (last : T) (i : ℕ)
       → branch_times times bs last ≡ times (below_at bs last i) + other_times times bs last i
@@ -75,7 +81,8 @@ module _ {T : Type 0} where
   times_split times (b ∷ bs) last (suc i) = let h = times_split times bs last i in omega arith
 
   pub times_graft : (times : T → ℕ) (bs : List (Branch T)) (last : T) (i : ℕ) (s : Spread T)
-      → branch_times times (graft_branches bs i s) (graft_last bs last i s) ≡ branch_times times s.branches s.last + other_times times bs last i
+      → branch_times times (graft_branches bs i s) (graft_last bs last i s)
+      ≡ branch_times times s.branches s.last + other_times times bs last i
   times_graft times [] last i s = omega arith
   times_graft times (b ∷ bs) last zero s = times-append times s.branches (record { below = s.last; item = b.item }) bs last
   times_graft times (b ∷ bs) last (suc i) s = let h = times_graft times bs last i s in omega arith
@@ -90,7 +97,8 @@ module _ {T : Type 0} where
   Each-others P (b ∷ bs) last zero h = h.1
   Each-others P (b ∷ bs) last (suc i) h = (h.0, Each-others P bs last i h.1)
 
-  pub Each-graft : (P : T → Type 0) (bs : List (Branch T)) (last : T) (i : ℕ) (s : Spread T) → EachOther P bs last i → EachBelow P s.branches s.last
+  pub Each-graft : (P : T → Type 0) (bs : List (Branch T)) (last : T) (i : ℕ) (s : Spread T) → EachOther P bs last i
+      → EachBelow P s.branches s.last
       → EachBelow P (graft_branches bs i s) (graft_last bs last i s)
   Each-graft P [] last i s h k = k
   Each-graft P (b ∷ bs) last zero s h k = Each-append P s.branches (record { below = s.last; item = b.item }) bs last k h
@@ -99,21 +107,28 @@ module _ {T : Type 0} where
   -- what holds of each tree that the places count, where it holds of the place
   pub Each-change : (P Q : T → Type 0) (times : ℕ → T → ℕ) (Kept : ℕ → Type 0)
       → ((t : T) → P t → ((place : ℕ) → 0 < times place t → Kept place) → Q t)
-      → (bs : List (Branch T)) (last : T) → EachBelow P bs last → ((place : ℕ) → 0 < branch_times (times place) bs last → Kept place) → EachBelow Q bs last
+      → (bs : List (Branch T)) (last : T) → EachBelow P bs last
+      → ((place : ℕ) → 0 < branch_times (times place) bs last → Kept place) → EachBelow Q bs last
   Each-change P Q times Kept step [] last h kept = step last h kept
-  Each-change P Q times Kept step (b ∷ bs) last h kept =
-      (step b.below h.0 (λ place some. kept place (omega arith)), Each-change P Q times Kept step bs last h.1 (λ place some. kept place (omega arith)))
+  Each-change P Q times Kept step (b ∷ bs) last h kept = (
+    step b.below h.0 (λ place some. kept place (omega arith)),
+    Each-change P Q times Kept step bs last h.1 (λ place some. kept place (omega arith)),
+  )
 
   pub Each-change_others : (P Q : T → Type 0) (times : ℕ → T → ℕ) (Kept : ℕ → Type 0)
       → ((t : T) → P t → ((place : ℕ) → 0 < times place t → Kept place) → Q t)
-      → (bs : List (Branch T)) (last : T) (i : ℕ) → EachOther P bs last i → ((place : ℕ) → 0 < other_times (times place) bs last i → Kept place) → EachOther Q bs last i
+      → (bs : List (Branch T)) (last : T) (i : ℕ) → EachOther P bs last i
+      → ((place : ℕ) → 0 < other_times (times place) bs last i → Kept place) → EachOther Q bs last i
   Each-change_others P Q times Kept step [] last i h kept = tt
   Each-change_others P Q times Kept step (b ∷ bs) last zero h kept = Each-change P Q times Kept step bs last h kept
-  Each-change_others P Q times Kept step (b ∷ bs) last (suc i) h kept =
-      (step b.below h.0 (λ place some. kept place (omega arith)), Each-change_others P Q times Kept step bs last i h.1 (λ place some. kept place (omega arith)))
+  Each-change_others P Q times Kept step (b ∷ bs) last (suc i) h kept = (
+    step b.below h.0 (λ place some. kept place (omega arith)),
+    Each-change_others P Q times Kept step bs last i h.1 (λ place some. kept place (omega arith)),
+  )
 
   -- no tree counts a place that none of them has
-  pub times_none : (P : T → Type 0) (times : T → ℕ) → ((t : T) → P t → times t ≡ 0) → (bs : List (Branch T)) (last : T) → EachBelow P bs last → branch_times times bs last ≡ 0
+  pub times_none : (P : T → Type 0) (times : T → ℕ) → ((t : T) → P t → times t ≡ 0) → (bs : List (Branch T)) (last : T)
+      → EachBelow P bs last → branch_times times bs last ≡ 0
   times_none P times none [] last h = none last h
   times_none P times none (b ∷ bs) last h = let e = none b.below h.0 in let f = times_none P times none bs last h.1 in omega arith
 
@@ -127,7 +142,8 @@ module _ {T : Type 0} (child : T → Option ℕ) where
   child_below (b ∷ bs) last zero = refl
   child_below (b ∷ bs) last (suc i) = child_below bs last i
 
-  pub last_graft : (bs : List (Branch T)) (last : T) (i : ℕ) (s : Spread T) → child s.last ≡ child (below_at bs last i) → child (graft_last bs last i s) ≡ child last
+  pub last_graft : (bs : List (Branch T)) (last : T) (i : ℕ) (s : Spread T) → child s.last ≡ child (below_at bs last i)
+      → child (graft_last bs last i s) ≡ child last
   last_graft [] last i s e = e
   last_graft (b ∷ bs) last zero s e = refl
   last_graft (b ∷ bs) last (suc i) s e = last_graft bs last i s e
@@ -138,11 +154,13 @@ module _ {T : Type 0} (child : T → Option ℕ) where
   entries_graft-none (b ∷ bs) last zero t e = ap (λ c. (let x : Entry = record { item = b.item; child = c } in x) ∷ map entry bs) e
   entries_graft-none (b ∷ bs) last (suc i) t e = ap (λ xs. entry b ∷ xs) (entries_graft-none bs last i t e)
 
-  pub entries_graft-one : (bs : List (Branch T)) (last : T) (i : ℕ) (a : Branch T) (t : T) → i ≤ length bs → child t ≡ child (below_at bs last i)
+  pub entries_graft-one : (bs : List (Branch T)) (last : T) (i : ℕ) (a : Branch T) (t : T) → i ≤ length bs
+      → child t ≡ child (below_at bs last i)
       → map entry (graft_branches bs i (record { branches = a ∷ []; last = t })) ≡ insert (map entry bs) i (entry a)
   entries_graft-one [] last zero a t h e = refl
   entries_graft-one [] last (suc i) a t h e = absurd (omega arith)
-  entries_graft-one (b ∷ bs) last zero a t h e = ap (λ c. entry a ∷ (let x : Entry = record { item = b.item; child = c } in x) ∷ map entry bs) e
+  entries_graft-one (b ∷ bs) last zero a t h e =
+      ap (λ c. entry a ∷ (let x : Entry = record { item = b.item; child = c } in x) ∷ map entry bs) e
   entries_graft-one (b ∷ bs) last (suc i) a t h e = ap (λ xs. entry b ∷ xs) (entries_graft-one bs last i a t (omega arith) e)
 
 -- the branch at a place, between those before and after it
@@ -159,4 +177,11 @@ at_place child [] last m h = absurd (omega arith)
 at_place child (b ∷ bs) last zero h = record { b = b; whole = refl; child_is = refl; entry_is = λ d. refl; left = refl; right = refl }
 at_place child (b ∷ bs) last (suc m) h =
     let r : At child bs last m = at_place child bs last m (omega arith) in
-    record { b = r.b; whole = ap (λ xs. b ∷ xs) r.whole; child_is = r.child_is; entry_is = r.entry_is; left = ap (λ xs. entry child b ∷ xs) r.left; right = r.right }
+    record {
+      b = r.b;
+      whole = ap (λ xs. b ∷ xs) r.whole;
+      child_is = r.child_is;
+      entry_is = r.entry_is;
+      left = ap (λ xs. entry child b ∷ xs) r.left;
+      right = r.right;
+    }

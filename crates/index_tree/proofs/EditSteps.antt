@@ -1,5 +1,6 @@
 -- A step of an insertion, from a record that was read.
-use Rattle.std.proofs.Common.{◌≡◌, ℕ, zero, suc, ◌+◌, ◌-◌, ◌≤◌, List, Option, Some, None, IsSome, Bool, true, false, length, refl, sym, ap, subst, ◌∙◌, arith, rules, ◌%◌, ◌==◌}
+use Rattle.std.proofs.Common.{◌≡◌, ℕ, zero, suc, ◌+◌, ◌-◌, ◌≤◌, List, Option, Some, None, IsSome, Bool, true, false, length, refl, sym, ap}
+use Rattle.std.proofs.Common.{subst, ◌∙◌, arith, rules, ◌%◌, ◌==◌}
 use Rattle.std.specs.Prelude.{IsTrue, ◌&&◌}
 use Rattle.index_node.proofs.NodeLaws.{child_at-none, entry_whole, flag_is}
 use Rattle.std.specs.Option.{option_and_then, option_map}
@@ -21,15 +22,18 @@ pub record NodeThere (nodes : Nodes) (vcn : ℕ) : Type 0 where
   pub said : Node
   pub there : nodes vcn ≡ Some said
 
-pub node_there : (order : List ℕ → List ℕ → Ordering) (valid : List ℕ → Bool) (nodes : Nodes) (vcn level : ℕ) → HasSorted order valid nodes (Some vcn) level
+pub node_there : (order : List ℕ → List ℕ → Ordering) (valid : List ℕ → Bool) (nodes : Nodes) (vcn level : ℕ)
+    → HasSorted order valid nodes (Some vcn) level
     → NodeThere nodes vcn
 node_there order valid nodes vcn level can = go can.depth can.tree can.sorted
   where
     go : (depth : ℕ) (t : Tree depth) → IsSorted order valid nodes depth t (Some vcn) → NodeThere nodes vcn
     go zero t sorted = absurd (none_other sorted.held.at)
-    go (suc depth) t sorted = record { said = node_of depth t.spread; there = ap nodes (sym (some_same sorted.held.at)) ∙ sorted.held.stored.0 }
+    go (suc depth) t sorted =
+        record { said = node_of depth t.spread; there = ap nodes (sym (some_same sorted.held.at)) ∙ sorted.held.stored.0 }
 
-pub level_more : (order : List ℕ → List ℕ → Ordering) (valid : List ℕ → Bool) (nodes : Nodes) (vcn level : ℕ) → HasSorted order valid nodes (Some vcn) level → 1 ≤ level
+pub level_more : (order : List ℕ → List ℕ → Ordering) (valid : List ℕ → Bool) (nodes : Nodes) (vcn level : ℕ)
+    → HasSorted order valid nodes (Some vcn) level → 1 ≤ level
 level_more order valid nodes vcn level can = go can.depth can.small can.tree can.sorted
   where
     go : (depth : ℕ) → depth ≤ level → (t : Tree depth) → IsSorted order valid nodes depth t (Some vcn) → 1 ≤ level
@@ -86,17 +90,20 @@ module _ (order : List ℕ → List ℕ → Ordering) (valid : List ℕ → Bool
 
       pub done_none : InsertsBelow order valid (short_nodes form r) (short_nodes form r1) child item None
           → InsertsBelow order valid (short_nodes form r) (short_nodes form r1) (Some vcn) item None
-      done_none h = inserts_kept order valid laws (short_nodes form r) vcn said nodes_read item i hit place (short_nodes form r1) (went None h)
+      done_none h = inserts_kept order valid laws (short_nodes form r) vcn said nodes_read item i hit place
+          (short_nodes form r1) (went None h)
 
       pub still : (up : Option Entry) → InsertsBelow order valid (short_nodes form r) (short_nodes form r1) child item up → IsSome (r1 vcn)
       still up h = record_there form r1 vcn said
-          (still_there order valid laws (short_nodes form r) vcn said nodes_read item i hit place level can (short_nodes form r1) up (went up h))
+          (still_there order valid laws (short_nodes form r) vcn said nodes_read item i hit place level can
+          (short_nodes form r1) up (went up h))
 
       pub done_some : (up : List ℕ) → InsertsBelow order valid (short_nodes form r) (short_nodes form r1) child item (Some (entry_in up))
           → (r2 : Records) (out : Option (List ℕ)) → PlacesIn form block vcn i up r1 r2 out
           → InsertsBelow order valid (short_nodes form r) (short_nodes form r2) (Some vcn) item (option_map entry_in out)
       done_some up h r2 out placed =
-          inserts_placed order valid laws (short_nodes form r) vcn said nodes_read item i hit place (short_nodes form r1) (short_nodes form r2) (entry_in up)
+          inserts_placed order valid laws (short_nodes form r) vcn said nodes_read item i hit place (short_nodes form r1)
+          (short_nodes form r2) (entry_in up)
           (went (Some (entry_in up)) h) (option_map entry_in out) (placed said is_short)
 
 -- an entry by itself, where there is no child

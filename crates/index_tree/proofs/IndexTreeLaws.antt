@@ -1,7 +1,8 @@
 -- Laws of index trees: a node of a tree by one of its places, and that an index has one walk.
 use Rattle.std.proofs.Common.{◌≡◌, ℕ, zero, suc, ◌+◌, List, [], ◌∷◌, ◌++◌, Option, map, refl, sym, ap, ◌∙◌, arith, append_assoc, append-nil}
 use Rattle.ntfs_def.specs.Node.{Item, Entry, Node, child_from}
-use Rattle.ntfs_def.specs.IndexTree.{Nodes, Branch, Spread, Tree, Each, EachBelow, branch_items, branch_times, child_of, entry_of, node_of, items_of, IsStored, HoldsIndex, Walks, spread_items}
+use Rattle.ntfs_def.specs.IndexTree.{Nodes, Branch, Spread, Tree, Each, EachBelow, branch_items, branch_times, child_of, entry_of, node_of}
+use Rattle.ntfs_def.specs.IndexTree.{items_of, IsStored, HoldsIndex, Walks, spread_items}
 use Rattle.list_laws.proofs.OptionLaws.{none_other, some_same}
 
 -- Lists of which each element has a property.

@@ -2,7 +2,8 @@
 use Rattle.std.proofs.Common.{◌≡◌, ◌≢◌, ◌+◌, ℕ, zero, suc, ◌≤◌, ◌==◌, List, [], ◌∷◌, Some, cond, true, ap, ◌∙◌, arith, inl, inr}
 use Rattle.std.proofs.lemmas.Bool.{cases_Bool, eqb-false, eqb-true}
 use Rattle.std.proofs.lemmas.Bool.Decides.{nat_tests}
-use Rattle.ntfs_def.specs.IndexTree.{Nodes, Branch, Spread, Tree, AreStored, EachBelow, IsStored, Walks, branch_times, node_of, one_if, spread_times, times_in}
+use Rattle.ntfs_def.specs.IndexTree.{Nodes, Branch, Spread, Tree, AreStored, EachBelow, IsStored, Walks, branch_times, node_of}
+use Rattle.ntfs_def.specs.IndexTree.{one_if, spread_times, times_in}
 use Rattle.ntfs_def.specs.Node.{Item, Node}
 
 pub one_if-same : (v : ℕ) → one_if v v ≡ 1

@@ -1,14 +1,15 @@
 -- A step of a removal, from a record that was read.
 use Rattle.std.specs.Prelude.{IfOk, IsErrAnd, IsTrue, Result, slice_index_or}
 use Rattle.std.proofs.Common.{Ok, Err}
-use Rattle.std.proofs.Common.{◌≡◌, ℕ, zero, suc, ◌+◌, ◌-◌, ◌*◌, ◌<◌, ◌≤◌, List, [], ◌∷◌, drop, remove, Option, Some, None, IsSome, Bool, true, false, inl, inr, length, refl, sym, ap, subst, ◌∙◌, arith}
+use Rattle.std.proofs.Common.{◌≡◌, ℕ, zero, suc, ◌+◌, ◌-◌, ◌*◌, ◌<◌, ◌≤◌, List, [], ◌∷◌, drop, remove, Option, Some, None, IsSome, Bool}
+use Rattle.std.proofs.Common.{true, false, inl, inr, length, refl, sym, ap, subst, ◌∙◌, arith}
 use Rattle.std.proofs.Math.Path.{fun_ext}
 use Rattle.std.proofs.lemmas.Bool.Decides.{eqb_tells}
 use Rattle.std.specs.Option.{option_and_then, option_map}
 use Rattle.std.specs.declared.cmp.Ordering.{Ordering}
 use Rattle.ntfs_def.specs.IndexTree.{Nodes, Tree, IsHeld, node_of}
-use Rattle.ntfs_def.specs.Node.{Entry, Item, Node, Whole, child_from, has_child, has_children, is_one_entry, item_in, most_len, node_in, scan_node}
-use Rattle.ntfs_def.specs.Node.{short_node, whole_of}
+use Rattle.ntfs_def.specs.Node.{Entry, Item, Node, Whole, child_from, has_child, has_children, is_one_entry, item_in, most_len, node_in}
+use Rattle.ntfs_def.specs.Node.{scan_node, short_node, whole_of}
 use Rattle.index_node.proofs.CrowdLaws.{short_entry}
 use Rattle.index_node.proofs.SplitLaws.{own_child}
 use Rattle.ntfs_def.specs.declared.index.NodeForm.{NodeForm}
@@ -20,13 +21,16 @@ use Rattle.index_node.specs.declared.NodeNo.TheVariants.{Shape, Full}
 use Rattle.index_node.specs.Seek.{IsPlace, StartsAt}
 use Rattle.index_tree.specs.Walk.{HasTree}
 use Rattle.index_tree.specs.Edit.{EditCostsBelow, HasSorted, PlacesIn, SeeksNode, short_nodes, without_node}
-use Rattle.index_tree.specs.Remove.{Drops, DropsIn, GivesBack, HasNode, HasNoneBehind, HeldOff, LeafOnly, RemovesAt, RemovesHere, RemovesBelow, ReplacesIn, TakesLeast, joined}
+use Rattle.index_tree.specs.Remove.{Drops, DropsIn, GivesBack, HasNode, HasNoneBehind, HeldOff, LeafOnly, RemovesAt, RemovesHere}
+use Rattle.index_tree.specs.Remove.{RemovesBelow, ReplacesIn, TakesLeast, joined}
 use Rattle.index_tree.proofs.OrderLaws.{IsOrder}
 use Rattle.list_laws.proofs.OptionLaws.{some_same, none_other}
 use Rattle.index_tree.proofs.EditMemory.{SealedPlace, SealedShort, short_in, wrote}
 use Rattle.index_tree.proofs.EditSteps.{NodeThere, record_there}
-use Rattle.index_tree.proofs.RemoveLaws.{gives_back, has_off, held_of_tree, level_held, least_below, least_first, least_same, node_of_held, without_node-same, without_node-other}
-use Rattle.index_tree.proofs.RemoveCalls.{leaf_below, leaf_hit, none_behind, removes_hit, removes_joined, removes_kept, removes_placed, removes_replaced, removes_there, some_behind}
+use Rattle.index_tree.proofs.RemoveLaws.{gives_back, has_off, held_of_tree, level_held, least_below, least_first, least_same}
+use Rattle.index_tree.proofs.RemoveLaws.{node_of_held, without_node-same, without_node-other}
+use Rattle.index_tree.proofs.RemoveCalls.{leaf_below, leaf_hit, none_behind, removes_hit, removes_joined, removes_kept, removes_placed}
+use Rattle.index_tree.proofs.RemoveCalls.{removes_replaced, removes_there, some_behind}
 
 pub tree_there : (nodes : Nodes) (vcn level : ℕ) → HasTree nodes (Some vcn) level → NodeThere nodes vcn
 tree_there nodes vcn level can = go can.depth can.tree can.held
@@ -57,7 +61,8 @@ gave form vcn r r1 g = fun_ext (λ place. elim (eqb_tells place vcn) [
 ])
 
 -- a node that was written, and a tree that was given back then
-pub dropped_in : SealedPlace → SealedShort → (form : NodeForm) (vcn : ℕ) (from : List ℕ) (r r1 r2 : Records) (gone : Option ℕ) → Writes vcn from r r1
+pub dropped_in : SealedPlace → SealedShort → (form : NodeForm) (vcn : ℕ) (from : List ℕ) (r r1 r2 : Records) (gone : Option ℕ)
+    → Writes vcn from r r1
     → length from ≡ 4096 → GivesBack (short_nodes form r1) (short_nodes form r2) gone → DropsIn form from vcn gone r r2
 dropped_in place_law short_law form vcn from r r1 r2 gone w len given said is = record {
   mem1 = short_nodes form r1;
@@ -87,7 +92,8 @@ less_one (e ∷ es) (suc i) h = let k = less_one es i (omega (arith, h)) in omeg
 pub put_item : (x : Item) {c d : Option ℕ} → c ≡ d → (let e : Entry = record { item = x; child = c } in e) ≡ record { item = x; child = d }
 put_item x e = ap (λ y. let m : Entry = record { item = x; child = y } in m) e
 
-module _ (form : NodeForm) (r : Records) (vcn level : ℕ) (has : HasTree (short_nodes form r) (Some vcn) level) (block : List ℕ) (read : r vcn ≡ Some block) where
+module _ (form : NodeForm) (r : Records) (vcn level : ℕ) (has : HasTree (short_nodes form r) (Some vcn) level) (block : List ℕ)
+    (read : r vcn ≡ Some block) where
   abbrev pub said : Node
   said = (tree_there (short_nodes form r) vcn level has).said
 
@@ -158,7 +164,8 @@ module _ (form : NodeForm) (r : Records) (vcn level : ℕ) (has : HasTree (short
             least_first (short_nodes form r) vcn said nodes_read (short_nodes form r1) (short_nodes form r1) (at_first None none) None
             (no_entries said.entries (ap (λ (m : Node). length m.entries) (sym view_is) ∙ e), same_below)
 
-        pub first_here : (block' : List ℕ) → short_node form block' ≡ Some (without_entry said 0) → (r2 : Records) → DropsIn form block' vcn child r1 r2
+        pub first_here : (block' : List ℕ) → short_node form block' ≡ Some (without_entry said 0) → (r2 : Records)
+            → DropsIn form block' vcn child r1 r2
             → (x : Item) → (length n.entries ≡ 0 → ⊥) → ((d : Entry) → x ≡ (slice_index_or n.entries 0 d).item)
             → TakesLeast (short_nodes form r) (short_nodes form r2) (Some vcn) (Some x)
         first_here block' is' r2 drops x some item =
@@ -167,7 +174,8 @@ module _ (form : NodeForm) (r : Records) (vcn level : ℕ) (has : HasTree (short
               some = let e = ap (λ (m : Node). length m.entries) (sym view_is) in more (length said.entries) (λ z. some (sym e ∙ z));
               item = λ d. item d ∙ ap (λ (m : Node). (slice_index_or m.entries 0 d).item) view_is;
               drops = subst (λ m. Drops m (short_nodes form r2) vcn (without_entry said 0) (child_of_node said 0)) same_below
-                  (subst (λ c. Drops (short_nodes form r1) (short_nodes form r2) vcn (without_entry said 0) c) (child_is ∙ ap (child_of_node said) first)
+                  (subst (λ c. Drops (short_nodes form r1) (short_nodes form r2) vcn (without_entry said 0) c)
+                  (child_is ∙ ap (child_of_node said) first)
                   (drops (without_entry said 0) is'));
             })
           where
@@ -176,13 +184,16 @@ module _ (form : NodeForm) (r : Records) (vcn level : ℕ) (has : HasTree (short
             more (suc k) h = omega arith
 
 -- Entry i is taken out of the node that was read, and `gone` stands behind it.
-module _ (form : NodeForm) (r : Records) (vcn level : ℕ) (has : HasTree (short_nodes form r) (Some vcn) (level + 1)) (block : List ℕ) (read : r vcn ≡ Some block)
-    (n : Node) (scan : scan_node form block ≡ Whole n) (i : ℕ) (entry : HasEntry form block i) (gone : Option ℕ) (is : gone ≡ child_from n.entries n.last (i + 1)) where
+module _ (form : NodeForm) (r : Records) (vcn level : ℕ) (has : HasTree (short_nodes form r) (Some vcn) (level + 1)) (block : List ℕ)
+    (read : r vcn ≡ Some block)
+    (n : Node) (scan : scan_node form block ≡ Whole n) (i : ℕ) (entry : HasEntry form block i) (gone : Option ℕ)
+    (is : gone ≡ child_from n.entries n.last (i + 1)) where
   abbrev here : Node
   here = said form r vcn (level + 1) has block read
 
   here_within : i < length here.entries
-  here_within = let w = entry.within in subst (λ (m : Node). i < length m.entries) (some_same (sym entry.is ∙ tree_node form r vcn (level + 1) has block read)) w
+  here_within = let w = entry.within in
+      subst (λ (m : Node). i < length m.entries) (some_same (sym entry.is ∙ tree_node form r vcn (level + 1) has block read)) w
 
   there : short_nodes form r vcn ≡ Some here
   there = nodes_read form r vcn (level + 1) has block read
@@ -220,28 +231,41 @@ module _ (form : NodeForm) (r : Records) (vcn level : ℕ) (has : HasTree (short
     pub off_none : TakesLeast (short_nodes form r) (short_nodes form r1) gone None → HeldOff (short_nodes form r1) vcn gone level
     off_none h = subst (λ m. HeldOff m vcn gone level) (sym (same_none h)) off_here
 
-    pub here_replaced : (x : Item) → TakesLeast (short_nodes form r) (short_nodes form r1) gone (Some x) → (r2 : Records) (out : Option (List ℕ))
-        → ReplacesIn form block vcn i x r1 r2 out → RemovesAt (short_nodes form r) (short_nodes form r2) vcn (short_node form block) i (option_map entry_in out)
+    pub here_replaced : (x : Item) → TakesLeast (short_nodes form r) (short_nodes form r1) gone (Some x)
+        → (r2 : Records) (out : Option (List ℕ))
+        → ReplacesIn form block vcn i x r1 r2 out
+        → RemovesAt (short_nodes form r) (short_nodes form r2) vcn (short_node form block) i (option_map entry_in out)
     here_replaced x h r2 out done said' e =
-        subst (λ m. RemovesHere (short_nodes form r) (short_nodes form r2) vcn m i (option_map entry_in out)) (some_same (sym (tree_short form r vcn (level + 1) has block read) ∙ e))
-        (removes_replaced (short_nodes form r) (short_nodes form r1) vcn here i here_within x (behind (Some x) h) (short_nodes form r2) (option_map entry_in out)
+        subst (λ m. RemovesHere (short_nodes form r) (short_nodes form r2) vcn m i (option_map entry_in out))
+        (some_same (sym (tree_short form r vcn (level + 1) has block read) ∙ e))
+        (removes_replaced (short_nodes form r) (short_nodes form r1) vcn here i here_within x (behind (Some x) h) (short_nodes form r2)
+        (option_map entry_in out)
         (done here (tree_short form r vcn (level + 1) has block read)))
 
-    pub here_joined : TakesLeast (short_nodes form r) (short_nodes form r1) gone None → (block' : List ℕ) → EditsShort form block block' (λ m. joined m i (child_of_node m i))
-        → (r2 : Records) → DropsIn form block' vcn gone r1 r2 → RemovesAt (short_nodes form r) (short_nodes form r2) vcn (short_node form block) i None
+    pub here_joined : TakesLeast (short_nodes form r) (short_nodes form r1) gone None → (block' : List ℕ)
+        → EditsShort form block block' (λ m. joined m i (child_of_node m i))
+        → (r2 : Records) → DropsIn form block' vcn gone r1 r2
+        → RemovesAt (short_nodes form r) (short_nodes form r2) vcn (short_node form block) i None
     here_joined h block' short r2 drops said' e =
-        subst (λ m. RemovesHere (short_nodes form r) (short_nodes form r2) vcn m i None) (some_same (sym (tree_short form r vcn (level + 1) has block read) ∙ e))
+        subst (λ m. RemovesHere (short_nodes form r) (short_nodes form r2) vcn m i None)
+        (some_same (sym (tree_short form r vcn (level + 1) has block read) ∙ e))
         (removes_joined (short_nodes form r) (short_nodes form r1) vcn here i here_within (behind None h) (short_nodes form r2)
         (subst (λ c. Drops (short_nodes form r1) (short_nodes form r2) vcn (joined here i (child_of_node here i)) c) gone_is
         (drops (joined here i (child_of_node here i)) (short here (tree_short form r vcn (level + 1) has block read)))))
 
 -- The key is sought in the node that was read.
-pub hit_entry : (order : List ℕ → List ℕ → Ordering) (form : NodeForm) (block key : List ℕ) (i : ℕ) (hit : Bool) (child : Option ℕ) → SeeksNode order form block key i hit child
+pub hit_entry : (order : List ℕ → List ℕ → Ordering) (form : NodeForm) (block key : List ℕ) (i : ℕ) (hit : Bool) (child : Option ℕ)
+    → SeeksNode order form block key i hit child
     → hit ≡ true → HasEntry form block i
 hit_entry order form block key i hit child seeks e =
     let p = seeks.place in
     let f = seeks.found p.said p.is in
-    record { said = p.said; is = p.is; within = hit_within (λ x. order x key) p.said.entries i (subst (StartsAt (λ x. order x key) (drop i p.said.entries)) e f.there) }
+    record {
+      said = p.said;
+      is = p.is;
+      within =
+          hit_within (λ x. order x key) p.said.entries i (subst (StartsAt (λ x. order x key) (drop i p.said.entries)) e f.there);
+    }
 
 module _ (order : List ℕ → List ℕ → Ordering) (valid : List ℕ → Bool) (laws : IsOrder order) (form : NodeForm) (r : Records) (vcn level : ℕ)
     (can : HasSorted order valid (short_nodes form r) (Some vcn) level) (block : List ℕ) (read : r vcn ≡ Some block)
@@ -269,9 +293,11 @@ module _ (order : List ℕ → List ℕ → Ordering) (valid : List ℕ → Bool
       let e : level ≡ level - 1 + 1 = omega (arith, some) in
       subst (HasTree (short_nodes form r) (Some vcn)) e sorted_tree
 
-  pub cost_hit : (most before after : ℕ) → after ≤ before + most → EditCostsBelow most order valid (short_nodes form r) (Some vcn) before after
+  pub cost_hit : (most before after : ℕ) → after ≤ before + most
+      → EditCostsBelow most order valid (short_nodes form r) (Some vcn) before after
   cost_hit most before after le zero tree sorted = absurd (none_other sorted.held.at)
-  cost_hit most before after le (suc depth) tree sorted = let e : most * suc depth ≡ most + most * depth = grind arith in omega (arith, le, e)
+  cost_hit most before after le (suc depth) tree sorted = let e : most * suc depth ≡ most + most * depth =
+      grind arith in omega (arith, le, e)
 
   -- a key that was hit at the node
   pub reads_hit : (before mid after : ℕ) → mid ≤ before + 1
@@ -291,16 +317,19 @@ module _ (order : List ℕ → List ℕ → Ordering) (valid : List ℕ → Bool
       leaf_hit order valid laws (short_nodes form r) vcn sought sought_there key i hit sought_place e before after Still
       (λ none. step (λ m is. ap (λ n. child_of_node n (i + 1)) (some_same (sym is ∙ sought_node)) ∙ none))
 
-  pub sought_below : hit ≡ false → (before after last : ℕ) (Still Still' : Type 0) → LeafOnly order valid (short_nodes form r) child key before after Still
+  pub sought_below : hit ≡ false → (before after last : ℕ) (Still Still' : Type 0)
+      → LeafOnly order valid (short_nodes form r) child key before after Still
       → ((after ≡ before) → Still → (last ≡ before) × Still') → LeafOnly order valid (short_nodes form r) (Some vcn) key before last Still'
   sought_below e before after last Still Still' h step =
       leaf_below order valid laws (short_nodes form r) vcn sought sought_there key i hit sought_place e before after Still Still' last
       (subst (λ c. LeafOnly order valid (short_nodes form r) c key before after Still) leads_to h) step
 
   module _ (r1 : Records) where
-    pub done_hit : hit ≡ true → (out : Option Entry) → RemovesAt (short_nodes form r) (short_nodes form r1) vcn (short_node form block) i out
+    pub done_hit : hit ≡ true → (out : Option Entry)
+        → RemovesAt (short_nodes form r) (short_nodes form r1) vcn (short_node form block) i out
         → RemovesBelow order valid (short_nodes form r) (short_nodes form r1) (Some vcn) key out
-    done_hit e out h = removes_hit order valid laws (short_nodes form r) vcn sought sought_there key i hit sought_place e (short_nodes form r1) out (h sought sought_short)
+    done_hit e out h = removes_hit order valid laws (short_nodes form r) vcn sought sought_there key i hit sought_place e
+        (short_nodes form r1) out (h sought sought_short)
 
     removed : (up : Option Entry) → RemovesBelow order valid (short_nodes form r) (short_nodes form r1) child key up
         → RemovesBelow order valid (short_nodes form r) (short_nodes form r1) (child_of_node sought i) key up
@@ -309,17 +338,21 @@ module _ (order : List ℕ → List ℕ → Ordering) (valid : List ℕ → Bool
     module _ (e : hit ≡ false) where
       pub removed_none : RemovesBelow order valid (short_nodes form r) (short_nodes form r1) child key None
           → RemovesBelow order valid (short_nodes form r) (short_nodes form r1) (Some vcn) key None
-      removed_none h = removes_kept order valid laws (short_nodes form r) vcn sought sought_there key i hit sought_place e (short_nodes form r1) (removed None h)
+      removed_none h = removes_kept order valid laws (short_nodes form r) vcn sought sought_there key i hit sought_place e
+          (short_nodes form r1) (removed None h)
 
-      pub removed_still : (up : Option Entry) → RemovesBelow order valid (short_nodes form r) (short_nodes form r1) child key up → IsSome (r1 vcn)
+      pub removed_still : (up : Option Entry) → RemovesBelow order valid (short_nodes form r) (short_nodes form r1) child key up
+          → IsSome (r1 vcn)
       removed_still up h = record_of form r1 vcn
-          (removes_there order valid laws (short_nodes form r) vcn sought sought_there key i hit sought_place e level can (short_nodes form r1) up (removed up h))
+          (removes_there order valid laws (short_nodes form r) vcn sought sought_there key i hit sought_place e level can
+          (short_nodes form r1) up (removed up h))
 
       pub removed_some : (up : List ℕ) → RemovesBelow order valid (short_nodes form r) (short_nodes form r1) child key (Some (entry_in up))
           → (r2 : Records) (out : Option (List ℕ)) → PlacesIn form block vcn i up r1 r2 out
           → RemovesBelow order valid (short_nodes form r) (short_nodes form r2) (Some vcn) key (option_map entry_in out)
       removed_some up h r2 out placed =
-          removes_placed order valid laws (short_nodes form r) vcn sought sought_there key i hit sought_place e (short_nodes form r1) (short_nodes form r2) (entry_in up)
+          removes_placed order valid laws (short_nodes form r) vcn sought sought_there key i hit sought_place e (short_nodes form r1)
+          (short_nodes form r2) (entry_in up)
           (removed (Some (entry_in up)) h) (option_map entry_in out) (placed sought sought_short)
 
 -- nothing is said of the value of a failure

@@ -1,5 +1,6 @@
 -- A step of a replacement, from a record that was read, and from the root.
-use Rattle.std.proofs.Common.{◌≡◌, ℕ, zero, suc, ◌+◌, ◌<◌, ◌≤◌, List, [], ◌∷◌, ◌++◌, get_or, Option, Some, None, Bool, true, false, length, sym, subst, arith}
+use Rattle.std.proofs.Common.{◌≡◌, ℕ, zero, suc, ◌+◌, ◌<◌, ◌≤◌, List, [], ◌∷◌, ◌++◌, get_or, Option, Some, None, Bool, true, false, length}
+use Rattle.std.proofs.Common.{sym, subst, arith}
 use Rattle.std.specs.Prelude.{IsTrue, slice_index_or}
 use Rattle.std.specs.Cmp.{IsTotalOrder}
 use Rattle.std.specs.declared.cmp.Ordering.{Ordering}
@@ -30,13 +31,15 @@ Each-get P (x ∷ xs) zero d lt h = h.0
 Each-get P (x ∷ xs) (suc i) d lt h = Each-get P xs i d (omega (arith, lt)) h.1
 
 -- the entry that was hit is as long
-entry_alike : (order : List ℕ → List ℕ → Ordering) (depth : ℕ) (s : Spread (Tree depth)) (root : Node) → node_of depth s ≡ root → (item : Item) (i : ℕ)
+entry_alike : (order : List ℕ → List ℕ → Ordering) (depth : ℕ) (s : Spread (Tree depth)) (root : Node)
+    → node_of depth s ≡ root → (item : Item) (i : ℕ)
     → IsPlace (λ k. order k item.key) root.entries i true → AreAlike order item (spread_items depth s)
     → (d : Entry) → item_len (slice_index_or root.entries i d).item ≡ item_len item
 entry_alike order depth s root is item i place alike d =
     let P : Item → Type 0 = λ (y : Item). order y.key item.key ≡ Equal → item_len y ≡ item_len item in
     let each : Each (λ (e : Entry). P e.item) root.entries =
-    subst (λ (m : Node). Each (λ (e : Entry). P e.item) m.entries) is (Each-branches P (items_of depth) (child_of depth) s.branches s.last alike) in
+    subst (λ (m : Node). Each (λ (e : Entry). P e.item) m.entries) is
+    (Each-branches P (items_of depth) (child_of depth) s.branches s.last alike) in
     Each-get (λ (e : Entry). P e.item) root.entries i d (hit_within (λ k. order k item.key) root.entries i place.there) each
     (hit_equal (λ k. order k item.key) root.entries i d place.there)
 
@@ -64,10 +67,14 @@ module _ (order : List ℕ → List ℕ → Ordering) (valid : List ℕ → Bool
       → ReplacesBelow order valid (short_nodes form r) (short_nodes form r1) (Some vcn) item
   replaced_hit e swaps zero t sorted x at alike = absurd (none_other sorted.held.at)
   replaced_hit e swaps (suc depth) t sorted x at alike =
-      let swapped : (place : ℕ) → short_nodes form r1 place ≡ with_node (short_nodes form r) vcn (replaced here i (entry_with item (child_of_node here i))) place =
-      subst (λ c. (place : ℕ) → short_nodes form r1 place ≡ with_node (short_nodes form r) vcn (replaced here i (entry_with item c)) place) child_is
-      (swaps here short (entry_alike order depth t.spread here (held_node (short_nodes form r) vcn here there depth t sorted.held) item i (place_of true e) alike)) in
-      below_hit order valid laws (short_nodes form r) vcn here there item i (place_of true e) (short_nodes form r1) swapped (suc depth) t sorted x at alike
+      let swapped : (place : ℕ) → short_nodes form r1 place
+      ≡ with_node (short_nodes form r) vcn (replaced here i (entry_with item (child_of_node here i))) place =
+      subst (λ c. (place : ℕ) → short_nodes form r1 place ≡ with_node (short_nodes form r) vcn (replaced here i (entry_with item c)) place)
+      child_is
+      (swaps here short (entry_alike order depth t.spread here (held_node (short_nodes form r) vcn here there depth t sorted.held) item i
+      (place_of true e) alike)) in
+      below_hit order valid laws (short_nodes form r) vcn here there item i (place_of true e) (short_nodes form r1) swapped
+      (suc depth) t sorted x at alike
 
   pub replaced_through : hit ≡ false → ReplacesBelow order valid (short_nodes form r) (short_nodes form r1) child item
       → ReplacesBelow order valid (short_nodes form r) (short_nodes form r1) (Some vcn) item
@@ -76,7 +83,8 @@ module _ (order : List ℕ → List ℕ → Ordering) (valid : List ℕ → Bool
       (subst (λ c. ReplacesBelow order valid (short_nodes form r) (short_nodes form r1) c item) child_is below)
 
 -- nothing is under no child
-pub replaces_nothing : (order : List ℕ → List ℕ → Ordering) (valid : List ℕ → Bool) (mem : Nodes) (item : Item) → ReplacesBelow order valid mem mem None item
+pub replaces_nothing : (order : List ℕ → List ℕ → Ordering) (valid : List ℕ → Bool) (mem : Nodes) (item : Item)
+    → ReplacesBelow order valid mem mem None item
 replaces_nothing order valid mem item zero t sorted x at alike = absurd (no at.front x at.back at.whole)
   where
     no : (front : List Item) (y : Item) (back : List Item) → [] ≡ front ++ (y ∷ back) → ⊥
@@ -84,7 +92,8 @@ replaces_nothing order valid mem item zero t sorted x at alike = absurd (no at.f
     no (f ∷ front) y back e = cons_none (sym e)
 replaces_nothing order valid mem item (suc depth) t sorted x at alike = absurd (none_other (sym sorted.held.at))
 
-module _ (order : List ℕ → List ℕ → Ordering) (valid : List ℕ → Bool) (total : IsTotalOrder order) (form : NodeForm) (r : Records) (root : List ℕ)
+module _ (order : List ℕ → List ℕ → Ordering) (valid : List ℕ → Bool) (total : IsTotalOrder order) (form : NodeForm)
+    (r : Records) (root : List ℕ)
     (i : ℕ) (hit : Bool) (child : Option ℕ) (key : List ℕ) (seeks : SeeksNode order form root key i hit child)
     (item : Item) (is_key : key ≡ item.key) (key_valid : IsTrue (valid item.key)) where
   laws : IsOrder order
@@ -118,17 +127,21 @@ module _ (order : List ℕ → List ℕ → Ordering) (valid : List ℕ → Bool
         node,
         is,
         replaced_index order total valid (short_nodes form r) (short_nodes form r1) depth s node node item index key_valid
-            (spread_through order valid laws (short_nodes form r) depth s node index item i (root_place node is false e) (short_nodes form r1)
-            (subst (λ c. ReplacesBelow order valid (short_nodes form r) (short_nodes form r1) c item) (seeks.leads node (short_in form root node is)) below)
+            (spread_through order valid laws (short_nodes form r) depth s node index item i
+            (root_place node is false e) (short_nodes form r1)
+            (subst (λ c. ReplacesBelow order valid (short_nodes form r) (short_nodes form r1) c item)
+            (seeks.leads node (short_in form root node is)) below)
             x at alike),
       )
 
   pub root_reads : (most before after : ℕ) → EditCostsBelow most order valid (short_nodes form r) child before after
       → EditReads most order valid (short_nodes form r) (short_node form root) before after
   root_reads most before after below node is depth s index =
-      (subst (λ c. EditCostsBelow most order valid (short_nodes form r) c before after) (seeks.leads node (short_in form root node is)) below)
+      (subst (λ c. EditCostsBelow most order valid (short_nodes form r) c before after)
+      (seeks.leads node (short_in form root node is)) below)
       depth (below_at s.branches s.last i) (index_below order valid laws (short_nodes form r) depth s node index i)
 
 -- the key of an entry by itself lies in it
-pub key_fits : (form : NodeForm) (children : Bool) (entry : List ℕ) → IsTrue (is_one_entry form children entry) → 16 + key_len entry 0 ≤ length entry
+pub key_fits : (form : NodeForm) (children : Bool) (entry : List ℕ) → IsTrue (is_one_entry form children entry)
+    → 16 + key_len entry 0 ≤ length entry
 key_fits form children entry one = let o = is_one form children entry one in let h = o.whole.holds in let l = o.len in omega (arith, h, l)

@@ -1,5 +1,6 @@
 -- An item comes in the place of one with an equal key: of a spread and of a tree.
-use Rattle.std.proofs.Common.{◌≡◌, ℕ, zero, suc, ◌+◌, ◌<◌, List, [], ◌∷◌, ◌++◌, Option, Some, Bool, true, false, length, map, drop, insert, remove, refl, sym, ap, subst, ◌∙◌, arith, append_assoc}
+use Rattle.std.proofs.Common.{◌≡◌, ℕ, zero, suc, ◌+◌, ◌<◌, List, [], ◌∷◌, ◌++◌, Option, Some, Bool, true, false, length, map, drop, insert}
+use Rattle.std.proofs.Common.{remove, refl, sym, ap, subst, ◌∙◌, arith, append_assoc}
 use Rattle.std.proofs.lemmas.List.{length-map}
 use Rattle.std.specs.Prelude.{IsTrue}
 use Rattle.std.specs.Cmp.{IsTotalOrder}
@@ -7,14 +8,16 @@ use Rattle.std.specs.Ordering.{ordering_reverse}
 use Rattle.std.specs.declared.cmp.Ordering.{Ordering}
 use Rattle.std.specs.declared.cmp.Ordering.TheVariants.{Less, Equal}
 use Rattle.ntfs_def.specs.Node.{Item, Node, child_from}
-use Rattle.ntfs_def.specs.IndexTree.{Nodes, Each, Branch, Spread, Tree, branch_items, branch_times, EachBelow, items_of, times_in, child_of, entry_of, node_of, IsStored, Ascends, spread_items, spread_times}
+use Rattle.ntfs_def.specs.IndexTree.{Nodes, Each, Branch, Spread, Tree, branch_items, branch_times, EachBelow, items_of, times_in, child_of}
+use Rattle.ntfs_def.specs.IndexTree.{entry_of, node_of, IsStored, Ascends, spread_items, spread_times}
 use Rattle.index_node.specs.Edit.{child_of_node, item_len, replaced}
 use Rattle.index_node.specs.Seek.{IsPlace, StartsAt}
 use Rattle.index_tree.specs.Edit.{IsAt, IsSorted, IsSortedIndex, Moves, below_at, graft, with_node}
 use Rattle.index_tree.specs.Replace.{AreAlike, IsSwapped, Replaced, ReplacesBelow, StaysSpread, StaysTree, entry_with}
 use Rattle.list_laws.proofs.OptionLaws.{none_other}
 use Rattle.index_tree.proofs.OrderLaws.{IsOrder}
-use Rattle.index_tree.proofs.EditSpreads.{before_items, behind_items, child_below, entries_graft-none, entry, items_graft, items_split, last_graft, times_graft, times_split}
+use Rattle.index_tree.proofs.EditSpreads.{before_items, behind_items, child_below, entries_graft-none, entry, items_graft, items_split}
+use Rattle.index_tree.proofs.EditSpreads.{last_graft, times_graft, times_split}
 use Rattle.index_tree.proofs.EditOrders.{Each-++, Each-left, Each-right, at_middle, before_low, behind_high}
 use Rattle.index_tree.proofs.EditTrees.{one_if-same}
 use Rattle.index_tree.proofs.EditCompose.{AreStored-frame, graft_stored, with_node-same, with_node-other}
@@ -35,7 +38,8 @@ module _ {T : Type 0} where
   times_swap times (b ∷ bs) last zero x = refl
   times_swap times (b ∷ bs) last (suc i) x = ap (λ n. times b.below + n) (times_swap times bs last i x)
 
-  Each-swap : (P : T → Type 0) (bs : List (Branch T)) (last : T) (i : ℕ) (x : Item) → EachBelow P bs last → EachBelow P (swap_branches bs i x) last
+  Each-swap : (P : T → Type 0) (bs : List (Branch T)) (last : T) (i : ℕ) (x : Item) → EachBelow P bs last
+      → EachBelow P (swap_branches bs i x) last
   Each-swap P [] last i x h = h
   Each-swap P (b ∷ bs) last zero x h = h
   Each-swap P (b ∷ bs) last (suc i) x h = (h.0, Each-swap P bs last i x h.1)
@@ -47,7 +51,8 @@ module _ {T : Type 0} where
   entries_swap child (b ∷ bs) last zero x h = refl
   entries_swap child (b ∷ bs) last (suc i) x h = ap (λ es. entry child b ∷ es) (entries_swap child bs last i x (omega (arith, h)))
 
-  items_swap : (order : List ℕ → List ℕ → Ordering) (child : T → Option ℕ) (items : T → List Item) (item : Item) (bs : List (Branch T)) (last : T) (i : ℕ)
+  items_swap : (order : List ℕ → List ℕ → Ordering) (child : T → Option ℕ) (items : T → List Item) (item : Item)
+      (bs : List (Branch T)) (last : T) (i : ℕ)
       → StartsAt (λ k. order k item.key) (drop i (map (entry child) bs)) true
       → IsSwapped order item (branch_items items bs last) (branch_items items (swap_branches bs i item) last)
   items_swap order child items item [] last zero h = let e : true ≡ false = h in cc
@@ -75,7 +80,8 @@ module _ (order : List ℕ → List ℕ → Ordering) (valid : List ℕ → Bool
       let e : node_of depth on ≡ root = index.holds.node in
       let there : StartsAt (λ k. order k item.key) (drop i (map (entry_of depth) on.branches)) true =
       subst (λ (n : Node). StartsAt (λ k. order k item.key) (drop i n.entries) true) (sym e) place.there in
-      let long : i < length (map (entry_of depth) on.branches) = hit_within (λ k. order k item.key) (map (entry_of depth) on.branches) i there in
+      let long : i < length (map (entry_of depth) on.branches) =
+      hit_within (λ k. order k item.key) (map (entry_of depth) on.branches) i there in
       let within : i < length on.branches = omega (arith, long, length-map on.branches (entry_of depth)) in
       record {
         s = record { branches = swap_branches on.branches i item; last = on.last };
@@ -125,7 +131,8 @@ module _ (order : List ℕ → List ℕ → Ordering) (valid : List ℕ → Bool
               let c = times_graft (times_in place depth) on.branches on.last i s in
               let q = b.keeps.same place in
               omega (arith, a, c, q);
-          others = λ place z. let a = times_split (times_in place depth) on.branches on.last i in b.keeps.others place (omega (arith, a, z));
+          others = λ place z. let a = times_split (times_in place depth) on.branches on.last i in
+              b.keeps.others place (omega (arith, a, z));
         };
         swapped = record {
           front = before ++ r.front;
@@ -135,13 +142,15 @@ module _ (order : List ℕ → List ℕ → Ordering) (valid : List ℕ → Bool
           was = split ∙ ap (λ xs. before ++ (xs ++ behind)) r.was ∙ ap (λ xs. before ++ xs) (append_assoc r.front (r.gone ∷ r.back) behind)
               ∙ sym (append_assoc before r.front (r.gone ∷ r.back ++ behind));
           now = items_graft (items_of depth) on.branches on.last i s ∙ ap (λ xs. before ++ (xs ++ behind)) r.now
-              ∙ ap (λ xs. before ++ xs) (append_assoc r.front (item ∷ r.back) behind) ∙ sym (append_assoc before r.front (item ∷ r.back ++ behind));
+              ∙ ap (λ xs. before ++ xs) (append_assoc r.front (item ∷ r.back) behind)
+              ∙ sym (append_assoc before r.front (item ∷ r.back ++ behind));
         };
       }
 
 module _ (order : List ℕ → List ℕ → Ordering) (valid : List ℕ → Bool) (laws : IsOrder order) (mem : Nodes) (vcn : ℕ) (node : Node)
     (read : mem vcn ≡ Some node) (item : Item) (i : ℕ) where
-  index_of : (depth : ℕ) (t : Tree (suc depth)) → IsSorted order valid mem (suc depth) t (Some vcn) → IsSortedIndex order valid mem depth t.spread node
+  index_of : (depth : ℕ) (t : Tree (suc depth)) → IsSorted order valid mem (suc depth) t (Some vcn)
+      → IsSortedIndex order valid mem depth t.spread node
   index_of depth t sorted =
       subst (λ n. IsSortedIndex order valid mem depth t.spread n) (held_node mem vcn node read depth t sorted.held)
       (spread_of order valid mem depth t (Some vcn) sorted)
@@ -153,12 +162,14 @@ module _ (order : List ℕ → List ℕ → Ordering) (valid : List ℕ → Bool
   below_hit place mem' done (suc depth) t sorted x at alike =
       let n : Node = replaced node i (entry_with item (child_of_node node i)) in
       let on : Spread (Tree depth) = t.spread in
-      let b : StaysSpread order item mem mem depth on n = spread_hit order valid laws mem depth on node (index_of depth t sorted) item i place in
+      let b : StaysSpread order item mem mem depth on n =
+      spread_hit order valid laws mem depth on node (index_of depth t sorted) item i place in
       record {
         tree' = record { vcn = t.vcn; spread = b.s };
         at = sorted.held.at;
         stored = (
-          done t.vcn ∙ ap (with_node mem vcn n) (vcn_is mem vcn depth t sorted.held) ∙ with_node-same mem vcn n ∙ ap (λ m. Some m) (sym b.node),
+          done t.vcn ∙ ap (with_node mem vcn n) (vcn_is mem vcn depth t sorted.held) ∙ with_node-same mem vcn n
+              ∙ ap (λ m. Some m) (sym b.node),
           AreStored-frame mem mem' depth b.s b.stored (λ place some.
               let q = b.keeps.same place in
               done place ∙ with_node-other mem vcn n place (below_other mem vcn depth t sorted.held place (omega (arith, q, some)))),
@@ -197,7 +208,8 @@ module _ (order : List ℕ → List ℕ → Ordering) (total : IsTotalOrder orde
   same_right : (x y z : List ℕ) → order x y ≡ Equal → order z x ≡ order z y
   same_right x y z e = total.antisymm z x ∙ ap ordering_reverse (total.congr x y z e) ∙ sym (total.antisymm z y)
 
-  Each-swapped : (P : Item → Type 0) (front back : List Item) (gone item : Item) → P item → Each P (front ++ gone ∷ back) → Each P (front ++ item ∷ back)
+  Each-swapped : (P : Item → Type 0) (front back : List Item) (gone item : Item) → P item → Each P (front ++ gone ∷ back)
+      → Each P (front ++ item ∷ back)
   Each-swapped P front back gone item p h =
       Each-++ P front (item ∷ back) (Each-left P front (gone ∷ back) h) (p, (Each-right P front (gone ∷ back) h).1)
 
@@ -239,10 +251,17 @@ module _ (order : List ℕ → List ℕ → Ordering) (total : IsTotalOrder orde
       record {
         s' = b.s;
         index = record {
-          holds = record { node = b.node; stored = b.stored; once = λ place. let o = index.holds.once place in let q = b.keeps.same place in omega (arith, o, q) };
+          holds = record {
+            node = b.node;
+            stored = b.stored;
+            once = λ place. let o = index.holds.once place in
+                let q = b.keeps.same place in omega (arith, o, q);
+          };
           keys = subst (Each (λ (x : Item). IsTrue (valid x.key))) (sym r.now)
-              (Each-swapped (λ (x : Item). IsTrue (valid x.key)) r.front r.back r.gone item key (subst (Each (λ (x : Item). IsTrue (valid x.key))) r.was index.keys));
-          ascends = subst (Ascends order) (sym r.now) (ascends_swapped r.front r.back r.gone item r.equal (subst (Ascends order) r.was index.ascends));
+              (Each-swapped (λ (x : Item). IsTrue (valid x.key)) r.front r.back r.gone item key
+              (subst (Each (λ (x : Item). IsTrue (valid x.key))) r.was index.keys));
+          ascends = subst (Ascends order) (sym r.now)
+              (ascends_swapped r.front r.back r.gone item r.equal (subst (Ascends order) r.was index.ascends));
         };
         keeps = b.keeps;
         swapped = r;

@@ -1,5 +1,6 @@
 -- The first item below is the first item.
-use Rattle.std.proofs.Common.{◌≡◌, ℕ, zero, suc, ◌+◌, ◌*◌, ◌-◌, ◌<◌, ◌≤◌, List, [], ◌∷◌, ◌++◌, Option, Some, None, Bool, true, false, map, take, drop, get_or, refl, sym, ap, subst, ◌∙◌, arith, append_assoc, IsSome}
+use Rattle.std.proofs.Common.{◌≡◌, ℕ, zero, suc, ◌+◌, ◌*◌, ◌-◌, ◌<◌, ◌≤◌, List, [], ◌∷◌, ◌++◌, Option, Some, None, Bool, true, false, map}
+use Rattle.std.proofs.Common.{take, drop, get_or, refl, sym, ap, subst, ◌∙◌, arith, append_assoc, IsSome}
 use Rattle.std.specs.Prelude.{IsTrue}
 use Rattle.std.specs.declared.cmp.Ordering.{Ordering}
 use Rattle.std.specs.declared.cmp.Ordering.TheVariants.{Less, Equal, Greater}
@@ -8,11 +9,14 @@ use Rattle.index_node.specs.declared.NodeNo.TheVariants.{Shape, Full}
 use Rattle.index_node.specs.View.{Refuses}
 use Rattle.ntfs_def.specs.Node.{Item, Entry, Node, Whole, scan_node, child_from, item_in, node_in, whole_of}
 use Rattle.ntfs_def.specs.declared.index.NodeForm.{NodeForm}
-use Rattle.ntfs_def.specs.IndexTree.{Nodes, Branch, Spread, Tree, Each, branch_items, items_of, times_in, child_of, node_of, IsStored, spread_items}
+use Rattle.ntfs_def.specs.IndexTree.{Nodes, Branch, Spread, Tree, Each, branch_items, items_of, times_in, child_of}
+use Rattle.ntfs_def.specs.IndexTree.{node_of, IsStored, spread_items}
 use Rattle.index_node.specs.Seek.{IsPlace, StartsAt}
-use Rattle.index_tree.specs.Search.{nodes_of, IsBefore, Rises, IsRising, HasRising, IsRisingIndex, HasRisingIndex, NoneEqual, IsFirst, IsFirstFound, FindsBelow, CostsBelow, Finds, Costs, Picks}
+use Rattle.index_tree.specs.Search.{nodes_of, IsBefore, Rises, IsRising, HasRising, IsRisingIndex, HasRisingIndex, NoneEqual, IsFirst}
+use Rattle.index_tree.specs.Search.{IsFirstFound, FindsBelow, CostsBelow, Finds, Costs, Picks}
 use Rattle.list_laws.proofs.OptionLaws.{some_same, none_other, none_not_some}
-use Rattle.index_tree.proofs.IndexTreeLaws.{below_at, before_items, behind_items, items_split, times_split, EachBelow-at, Each-branches, child_below, branch_entry, Each-++, Each-left, Each-right, Each-mid, Each-map}
+use Rattle.index_tree.proofs.IndexTreeLaws.{below_at, before_items, behind_items, items_split, times_split, EachBelow-at, Each-branches}
+use Rattle.index_tree.proofs.IndexTreeLaws.{child_below, branch_entry, Each-++, Each-left, Each-right, Each-mid, Each-map}
 use Rattle.std.specs.Option.{option_and_then}
 use Rattle.std.specs.Prelude.{◌^◌}
 use Rattle.std.proofs.Math.Nat.{min-le_left}

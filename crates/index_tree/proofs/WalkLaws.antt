@@ -1,8 +1,10 @@
 -- A walk, branch by branch.
-use Rattle.std.proofs.Common.{◌≡◌, ℕ, zero, suc, ◌+◌, ◌-◌, ◌*◌, ◌<◌, ◌≤◌, List, [], ◌∷◌, ◌++◌, Option, Some, IsSome, length, map, get_or, refl, sym, ap, subst, ◌∙◌, arith, append_assoc, append-nil, add-one}
+use Rattle.std.proofs.Common.{◌≡◌, ℕ, zero, suc, ◌+◌, ◌-◌, ◌*◌, ◌<◌, ◌≤◌, List, [], ◌∷◌, ◌++◌, Option, Some, IsSome, length, map, get_or}
+use Rattle.std.proofs.Common.{refl, sym, ap, subst, ◌∙◌, arith, append_assoc, append-nil, add-one}
 use Rattle.std.proofs.lemmas.List.{length-map, map-append}
 use Rattle.ntfs_def.specs.Node.{Item, Entry, Node, child_from, item_in}
-use Rattle.ntfs_def.specs.IndexTree.{Nodes, Branch, Spread, Tree, branch_items, branch_times, child_of, entry_of, items_of, times_in, IsHeld, IsStored, HoldsIndex}
+use Rattle.ntfs_def.specs.IndexTree.{Nodes, Branch, Spread, Tree, branch_items, branch_times, child_of, entry_of, items_of, times_in}
+use Rattle.ntfs_def.specs.IndexTree.{IsHeld, IsStored, HoldsIndex}
 use Rattle.list_laws.proofs.OptionLaws.{some_same, none_other}
 use Rattle.index_tree.proofs.IndexTreeLaws.{before_items, below_at, branch_entry, child_below, times_split, EachBelow-at}
 use Rattle.index_tree.specs.Walk.{CostsNode, CostsTree, HasSpread, HasTree, HasWalk, IsWalk, WalksNode, WalksTree, items_in, record_count}

@@ -1,10 +1,12 @@
 -- What an edit does to an index, and to the records that hold it.
-use Rattle.std.specs.Prelude.{◌≡◌, ℕ, zero, suc, ◌+◌, ◌*◌, ◌≤◌, ◌<◌, ◌==◌, Bool, List, [], ◌∷◌, ◌++◌, Option, Some, None, is_some, IsTrue, length, slice_index_or, ◌⊎◌, if◌then◌else◌}
+use Rattle.std.specs.Prelude.{◌≡◌, ℕ, zero, suc, ◌+◌, ◌*◌, ◌≤◌, ◌<◌, ◌==◌, Bool, List, [], ◌∷◌, ◌++◌, Option, Some, None, is_some, IsTrue}
+use Rattle.std.specs.Prelude.{length, slice_index_or, ◌⊎◌, if◌then◌else◌}
 use Rattle.std.specs.Option.{option_and_then, option_map}
 use Rattle.std.specs.declared.cmp.Ordering.{Ordering}
 use Rattle.std.specs.declared.cmp.Ordering.TheVariants.{Less, Equal}
 use Rattle.ntfs_def.specs.Node.{Entry, Item, Node, has_children, node_in, short_node}
-use Rattle.ntfs_def.specs.IndexTree.{Each, Nodes, Branch, Spread, Tree, items_of, times_in, child_of, entry_of, AreStored, Ascends, IsHeld, HoldsIndex, spread_items, spread_times}
+use Rattle.ntfs_def.specs.IndexTree.{Each, Nodes, Branch, Spread, Tree, items_of, times_in, child_of, entry_of, AreStored, Ascends, IsHeld}
+use Rattle.ntfs_def.specs.IndexTree.{HoldsIndex, spread_items, spread_times}
 use Rattle.ntfs_def.specs.declared.index.NodeForm.{NodeForm}
 use Rattle.index_node.specs.Edit.{HasPlace, child_of_node, entry_in, left_of, right_of, with_entry_at}
 use Rattle.vol_disk.specs.Count.{Rose}

@@ -1,5 +1,6 @@
 -- What a removal does.
-use Rattle.std.specs.Prelude.{◌≡◌, ◌*◌, ◌≢◌, insert, ℕ, zero, suc, ◌+◌, ◌≤◌, ◌<◌, List, [], ◌∷◌, ◌++◌, Option, Some, None, length, slice_index_or, remove, Bool, true, false}
+use Rattle.std.specs.Prelude.{◌≡◌, ◌*◌, ◌≢◌, insert, ℕ, zero, suc, ◌+◌, ◌≤◌, ◌<◌, List, [], ◌∷◌, ◌++◌, Option, Some, None, length}
+use Rattle.std.specs.Prelude.{slice_index_or, remove, Bool, true, false}
 use Rattle.ntfs_def.specs.declared.index.NodeForm.{NodeForm}
 use Rattle.std.specs.declared.cmp.Ordering.{Ordering}
 use Rattle.std.specs.declared.cmp.Ordering.TheVariants.{Equal}

@@ -3,7 +3,8 @@ use Rattle.std.specs.Prelude.{◌≡◌, ℕ, Bool, List, ◌∷◌, ◌++◌, O
 use Rattle.std.specs.declared.cmp.Ordering.{Ordering}
 use Rattle.std.specs.declared.cmp.Ordering.TheVariants.{Equal}
 use Rattle.ntfs_def.specs.Node.{Entry, Item, Node, node_in, short_node}
-use Rattle.ntfs_def.specs.IndexTree.{Each, Nodes, Spread, Tree, items_of, times_in, child_of, node_of, IsStored, AreStored, spread_items, spread_times}
+use Rattle.ntfs_def.specs.IndexTree.{Each, Nodes, Spread, Tree, items_of, times_in, child_of, node_of, IsStored}
+use Rattle.ntfs_def.specs.IndexTree.{AreStored, spread_items, spread_times}
 use Rattle.ntfs_def.specs.declared.index.NodeForm.{NodeForm}
 use Rattle.index_node.specs.Edit.{IsOpened, item_len, replaced}
 use Rattle.index_tree.specs.Edit.{IsAt, IsSorted, IsSortedIndex, short_nodes, with_node}

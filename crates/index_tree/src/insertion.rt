@@ -1,13 +1,15 @@
 //! A key goes into an index: nodes that it does not fit into are split, up to the root, and a root that grows too long is
 //! moved down.
-ghost use Rattle.std.specs.Prelude.{◌≡◌, ◌+◌, ◌≤◌, ◌⊎◌, IfNone, IfOk, IfSome, IsSome, IsTrue, MatchResult, OnErr, OnOk, Some, false, is_some, length, true};
+ghost use Rattle.std.specs.Prelude.{◌≡◌, ◌+◌, ◌≤◌, ◌⊎◌, IfNone, IfOk, IfSome, IsSome, IsTrue, MatchResult, OnErr, OnOk, Some, false};
+ghost use Rattle.std.specs.Prelude.{is_some, length, true};
 ghost use Rattle.std.specs.Option.{option_map};
 ghost use Rattle.vol_disk.specs.Contents.{WhereTold};
 ghost use Rattle.ntfs_def.specs.IndexTree.{Each};
 ghost use Rattle.ntfs_def.specs.Node.{Entry, Node, has_children, item_in, node_in, short_node};
 ghost use Rattle.index_node.specs.Edit.{HasPlace, IsCrowded, IsOpened, IsShortEntry, entry_in};
 ghost use Rattle.index_node.specs.EditBlocks.{Edits};
-ghost use Rattle.index_tree.specs.Edit.{CountsEditNo, EditCosts, EditCostsBelow, EditReads, FitsIn, HasSorted, HasSortedIndex, Inserts, InsertsBelow, IsFitRoot, KeepsKeyed, PlacesIn, SeeksNode, short_nodes};
+ghost use Rattle.index_tree.specs.Edit.{CountsEditNo, EditCosts, EditCostsBelow, EditReads, FitsIn, HasSorted, HasSortedIndex, Inserts};
+ghost use Rattle.index_tree.specs.Edit.{InsertsBelow, IsFitRoot, KeepsKeyed, PlacesIn, SeeksNode, short_nodes};
 ghost use Rattle.index_tree.specs.Index.{form_of, limit_of, order_of};
 
 use crate::descent::MOST_DEPTH;

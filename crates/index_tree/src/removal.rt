@@ -1,15 +1,19 @@
 //! A key goes out of an index. From a leaf it is taken alone; in a node above it the least key behind it comes in its place, and
 //! a tree behind it that has no key is given back. Nodes are not joined.
-ghost use Rattle.std.specs.Prelude.{◌≡◌, ◌+◌, ◌*◌, ◌≤◌, ◌⊎◌, ℕ, length, IfErr, IfNone, IfOk, IfSome, IsSome, IsTrue, MatchResult, OnOk, Some, None, is_some, true};
+ghost use Rattle.std.specs.Prelude.{◌≡◌, ◌+◌, ◌*◌, ◌≤◌, ◌⊎◌, ℕ, length, IfErr, IfNone, IfOk, IfSome, IsSome, IsTrue, MatchResult, OnOk};
+ghost use Rattle.std.specs.Prelude.{Some, None, is_some, true};
 ghost use Rattle.std.specs.Option.{option_map};
 ghost use Rattle.vol_disk.specs.Contents.{WhereTold};
 ghost use Rattle.ntfs_def.specs.Node.{Node, has_child, has_children, is_one_entry, item_in, most_len, node_in, short_node};
-ghost use Rattle.index_node.specs.Edit.{Becomes, EditsShort, Turns, child_of_node, leading, without_entry, HasEntry, HasPlace, IsOpened, IsShortEntry, entry_in};
+ghost use Rattle.index_node.specs.Edit.{Becomes, EditsShort, Turns, child_of_node, leading, without_entry, HasEntry, HasPlace};
+ghost use Rattle.index_node.specs.Edit.{IsOpened, IsShortEntry, entry_in};
 ghost use Rattle.index_node.specs.EditBlocks.{Edits};
 ghost use Rattle.index_node.specs.Sealed.{HasArrayApart};
-ghost use Rattle.index_tree.specs.Edit.{CountsEditNo, EditCosts, EditCostsBelow, EditReads, HasSorted, HasSortedIndex, IsFitRoot, Placed, short_nodes};
+ghost use Rattle.index_tree.specs.Edit.{CountsEditNo, EditCosts, EditCostsBelow, EditReads, HasSorted, HasSortedIndex};
+ghost use Rattle.index_tree.specs.Edit.{IsFitRoot, Placed, short_nodes};
 ghost use Rattle.index_tree.specs.Index.{form_of, limit_of, order_of};
-ghost use Rattle.index_tree.specs.Remove.{CostsLevel, DropsIn, GivesBack, HasBehind, HasNoneBehind, HeldOff, LeafOnly, LeafOnlyFrom, RootRemoves, with_item_at, RemovesAt, RemovesBelow, RemovesFrom, ReplacesIn, TakesLeast};
+ghost use Rattle.index_tree.specs.Remove.{CostsLevel, DropsIn, GivesBack, HasBehind, HasNoneBehind, HeldOff, LeafOnly, LeafOnlyFrom};
+ghost use Rattle.index_tree.specs.Remove.{RootRemoves, with_item_at, RemovesAt, RemovesBelow, RemovesFrom, ReplacesIn, TakesLeast};
 ghost use Rattle.index_tree.specs.Walk.{HasTree};
 
 use crate::descent::MOST_DEPTH;

@@ -45,8 +45,8 @@ pub const LARGE: [&str; 14] = [
     "write /k 430074 ",
 ];
 
-/// A new volume leaves the clusters from 135 on, and has here a file `k` with this stream in these clusters, and with a value `s` beside it,
-/// unless that is empty.
+/// A new volume leaves the clusters from 135 on, and has here a file `k` with this stream in these clusters, and with a value `s` beside
+/// it, unless that is empty.
 pub fn volume_with(
     alloc: Global,
     stream: Extent,

@@ -9,7 +9,8 @@ use Rattle.list_laws.specs.SameItems.{SameItems}
 use Rattle.list_laws.proofs.FindLaws.{count-cons, count-yes, passing}
 use Rattle.list_laws.proofs.FlatMapLaws.{flat_map-nil}
 use Rattle.list_laws.proofs.MemberLaws.{All-from_Contains, Contains-head, Contains-later}
-use Rattle.list_laws.proofs.SameItemsLaws.{SameItems-append, SameItems-length, SameItems-passing, SameItems-same, SameItems-sym, count-append}
+use Rattle.list_laws.proofs.SameItemsLaws.{SameItems-append, SameItems-length, SameItems-passing}
+use Rattle.list_laws.proofs.SameItemsLaws.{SameItems-same, SameItems-sym, count-append}
 
 -- A TEST that all items pass
 pub All-SameItems : {A : Type 0} (p : A → Bool) (xs ys : List A) → SameItems xs ys → All (λ x. p x ≡ true) xs → All (λ y. p y ≡ true) ys

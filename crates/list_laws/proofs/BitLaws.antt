@@ -1,9 +1,11 @@
 -- Bits of bytes.
-use Rattle.std.proofs.Common.{◌≡◌, ℕ, ◌+◌, ◌*◌, ◌/◌, ◌%◌, ◌<◌, List, get_or, refl, arith, length, set, ap, ◌∙◌, ◌≢◌, ◌≤◌, bit_or, ◌-◌, sym, inl, inr, bit_and, ◌^◌, w8, bit_xor, drop, false, take}
+use Rattle.std.proofs.Common.{◌≡◌, ℕ, ◌+◌, ◌*◌, ◌/◌, ◌%◌, ◌<◌, List, get_or, refl, arith, length, set, ap, ◌∙◌, ◌≢◌, ◌≤◌, bit_or, ◌-◌, sym}
+use Rattle.std.proofs.Common.{inl, inr, bit_and, ◌^◌, w8, bit_xor, drop, false, take}
 use Rattle.std.specs.Int.{bit_at, trailing_zeros}
 use Rattle.list_laws.specs.Bits.{bit_in, flags_in}
 use Rattle.std.proofs.lemmas.List.{get_or-set_same, get_or-set_other, length-set, get_or-drop, get_or_past, get_or-take, length-take-le}
-use Rattle.std.proofs.lemmas.Nat.Bits.{bit_at_or, bit_at-lt, bit_at_and, bit_at-zero, bit_at-trailing_zeros, bit_at_xor, same_from_bits, bit_at_set_other, bit_at_set_same}
+use Rattle.std.proofs.lemmas.Nat.Bits.{bit_at_or, bit_at-lt, bit_at_and, bit_at-zero, bit_at-trailing_zeros, bit_at_xor}
+use Rattle.std.proofs.lemmas.Nat.Bits.{same_from_bits, bit_at_set_other, bit_at_set_same}
 use Rattle.std.proofs.lemmas.Bool.{cases_eq, cases_lt}
 use Rattle.list_laws.specs.BitRanges.{DiffersFirst, SetsBit, IsPieceOf}
 use Rattle.std.specs.Prelude.{slice_index, ◌↔◌, ◌==◌}
@@ -209,7 +211,8 @@ flags_in-piece value bytes count is enough =
 
 -- Bytes that are as many as those of the value, and the first ones of it, are the value.
 pub whole-piece : (value bytes : List ℕ) → IsPieceOf value 0 bytes → length bytes ≡ length value → bytes ≡ value
-whole-piece value bytes is long = same_number_lists bytes value long (λ k lt. let at : 0 + k ≡ k = omega arith in is k lt ∙ ap (slice_index value) at)
+whole-piece value bytes is long =
+    same_number_lists bytes value long (λ k lt. let at : 0 + k ≡ k = omega arith in is k lt ∙ ap (slice_index value) at)
 
 pub length-flags : (bytes : List ℕ) (count : ℕ) → length (flags_in bytes count) ≡ count
 unfolding flags_in

@@ -1,5 +1,6 @@
 -- Truth values, one beside another.
-use Rattle.std.proofs.Common.{◌≡◌, ◌↔◌, Bool, true, false, IsTrue, refl, sym, ◌∙◌, ◌||◌, ◌&&◌, ◌≤◌, cond, arith, IsFalse, ℕ, leb, ◌+◌, ◌<◌, subst}
+use Rattle.std.proofs.Common.{◌≡◌, ◌↔◌, Bool, true, false, IsTrue, refl, sym, ◌∙◌, ◌||◌, ◌&&◌, ◌≤◌, cond, arith, IsFalse, ℕ, leb}
+use Rattle.std.proofs.Common.{◌+◌, ◌<◌, subst}
 use Rattle.std.specs.Bool.{Decides}
 use Rattle.std.proofs.lemmas.Bool.{true≢false, le-leb, leb-true}
 use Rattle.std.specs.Prelude.{if◌then◌else◌}

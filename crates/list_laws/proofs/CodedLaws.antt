@@ -1,11 +1,13 @@
 -- Lists of the same items, where two items can be told apart: a code of each tells it from all others.
 use base.Stored.{Gv, gnil, gnum, gcons}
-use Rattle.std.proofs.Common.{◌&&◌, Bool, true, false, eqb, ◌≡◌, refl, ap, ◌∙◌, List, sym, subst, ◌≤◌, Option, Some, None, arith, ◌∷◌, map, []}
+use Rattle.std.proofs.Common.{◌&&◌, Bool, true, false, eqb, ◌≡◌, refl, ap, ◌∙◌, List, sym, subst, ◌≤◌, Option, Some, None, arith}
+use Rattle.std.proofs.Common.{◌∷◌, map, []}
 use Rattle.std.proofs.lemmas.Bool.{and_from, eq-eqb, and_parts, eqb-true}
 use Rattle.std.specs.Coded.{Coded}
 use Rattle.std.specs.List.{Contains, count_by, find, remove}
 use Rattle.list_laws.specs.SameItems.{SameItems}
-use Rattle.list_laws.proofs.SameItemsLaws.{SameItems-passing, SameItems-sym, SameItems-permutation, SameItems-map, SameItems-append, SameItems-same, SameItems-trans, SameItems-length}
+use Rattle.list_laws.proofs.SameItemsLaws.{SameItems-passing, SameItems-sym, SameItems-permutation, SameItems-map, SameItems-append}
+use Rattle.list_laws.proofs.SameItemsLaws.{SameItems-same, SameItems-trans, SameItems-length}
 use Rattle.std.specs.Prelude.{All}
 use Rattle.std.proofs.lemmas.List.Elements.{All-contains}
 use Rattle.list_laws.proofs.MemberLaws.{All-from_Contains, Contains-from_map, Contains-head}

@@ -1,5 +1,6 @@
 -- What a filter keeps: all, none, one, or the items between two places; and of what another filter kept.
-use Rattle.std.proofs.Common.{◌≡◌, Bool, true, false, cond, List, [], ◌∷◌, filter, map, refl, ap, sym, ◌∙◌, not, arith, inl, inr, ◌<◌, ℕ, suc, length, get_or, ◌≤◌, ◌+◌, ◌-◌, ◌++◌, take, drop, append-nil}
+use Rattle.std.proofs.Common.{◌≡◌, Bool, true, false, cond, List, [], ◌∷◌, filter, map, refl, ap, sym, ◌∙◌, not, arith, inl, inr, ◌<◌, ℕ}
+use Rattle.std.proofs.Common.{suc, length, get_or, ◌≤◌, ◌+◌, ◌-◌, ◌++◌, take, drop, append-nil}
 use Rattle.std.specs.List.{Contains, count_by}
 use Rattle.list_laws.proofs.MemberLaws.{Contains-head, Contains-later, Contains-cases, Contains-nil}
 use Rattle.list_laws.proofs.FindLaws.{count-no, count-yes, same_passing}
@@ -56,7 +57,8 @@ filter-all test (x ∷ xs) all =
     ap (λ b. cond b (x ∷ filter test xs) (filter test xs)) (all x (Contains-head x xs))
     ∙ ap (λ l. x ∷ l) (filter-all test xs (λ y c. all y (Contains-later x xs y c)))
 
-pub filter-left_out : {A : Type 0} (test : A → Bool) (xs : List A) → ((x : A) → Contains xs x → test x ≡ true) → filter (λ x. not (test x)) xs ≡ []
+pub filter-left_out : {A : Type 0} (test : A → Bool) (xs : List A) → ((x : A) → Contains xs x → test x ≡ true)
+    → filter (λ x. not (test x)) xs ≡ []
 filter-left_out test [] all = refl
 filter-left_out test (x ∷ xs) all =
     ap (λ b. cond (not b) (x ∷ filter (λ y. not (test y)) xs) (filter (λ y. not (test y)) xs)) (all x (Contains-head x xs))
@@ -87,13 +89,15 @@ filter-one {X = X} p (y ∷ ys) x e c t = by (filter-one p ys x) (p y) refl
           | inr later ↦ rw b (rest (omega (arith, n, e)) later t)
         ]
 
-pub filter-none_at : {A : Type 0} (p : A → Bool) (xs : List A) → ((k : ℕ) (d : A) → k < length xs → p (get_or xs k d) ≡ false) → filter p xs ≡ []
+pub filter-none_at : {A : Type 0} (p : A → Bool) (xs : List A)
+    → ((k : ℕ) (d : A) → k < length xs → p (get_or xs k d) ≡ false) → filter p xs ≡ []
 filter-none_at p [] none = refl
 filter-none_at p (x ∷ xs) none =
     ap (λ b. cond b (x ∷ filter p xs) (filter p xs)) (none 0 x (omega arith))
     ∙ filter-none_at p xs (λ k d l. none (suc k) d (omega arith))
 
-pub filter-all_at : {A : Type 0} (p : A → Bool) (xs : List A) → ((k : ℕ) (d : A) → k < length xs → p (get_or xs k d) ≡ true) → filter p xs ≡ xs
+pub filter-all_at : {A : Type 0} (p : A → Bool) (xs : List A)
+    → ((k : ℕ) (d : A) → k < length xs → p (get_or xs k d) ≡ true) → filter p xs ≡ xs
 filter-all_at p [] all = refl
 filter-all_at p (x ∷ xs) all =
     ap (λ b. cond b (x ∷ filter p xs) (filter p xs)) (all 0 x (omega arith))
@@ -119,7 +123,8 @@ filter-between p xs start end low high before among behind =
     let lt : k < end - start = omega (arith, length-take-le (end - start) rest (omega arith)) in
     ap p (get_or-take (end - start) rest k d lt ∙ get_or-drop start xs k d) ∙ among (start + k) d (omega arith) (omega arith)))
     ∙ ap (λ ys. take (end - start) rest ++ ys) (ap (filter p) (drop-drop (end - start) start xs ∙ ap (λ k. drop k xs) e)
-    ∙ filter-none_at p (drop end xs) (λ k d l. ap p (get_or-drop end xs k d) ∙ behind (end + k) d (omega arith) (omega (arith, length-drop end xs))))
+    ∙ filter-none_at p (drop end xs) (λ k d l. ap p (get_or-drop end xs k d)
+    ∙ behind (end + k) d (omega arith) (omega (arith, length-drop end xs))))
     ∙ append-nil (take (end - start) rest)
 
 -- those from `start` on pass
@@ -132,4 +137,5 @@ filter-from p xs start low before from =
     ∙ ap (λ ys. ys ++ filter p (drop start xs)) (filter-none_at p (take start xs) (λ k d l.
     let lt : k < start = omega (arith, length-take-le start xs low) in
     ap p (get_or-take start xs k d lt) ∙ before k d lt))
-    ∙ filter-all_at p (drop start xs) (λ k d l. ap p (get_or-drop start xs k d) ∙ from (start + k) d (omega arith) (omega (arith, length-drop start xs)))
+    ∙ filter-all_at p (drop start xs) (λ k d l. ap p (get_or-drop start xs k d)
+    ∙ from (start + k) d (omega arith) (omega (arith, length-drop start xs)))

@@ -1,5 +1,6 @@
 -- How many items of a list pass a test, and the one that is found, which is the same in any order where at most one passes.
-use Rattle.std.proofs.Common.{◌≡◌, ◌&&◌, ◌≤◌, ◌+◌, map, zero, suc, Bool, true, false, cond, List, [], ◌∷◌, Some, None, refl, sym, ap, inl, inr, ◌∙◌, arith, ◌++◌, ◌||◌, ℕ, ◌<◌, get_or, length, take, is_some, ◌==◌, not}
+use Rattle.std.proofs.Common.{◌≡◌, ◌&&◌, ◌≤◌, ◌+◌, map, zero, suc, Bool, true, false, cond, List, [], ◌∷◌, Some, None, refl, sym, ap, inl}
+use Rattle.std.proofs.Common.{inr, ◌∙◌, arith, ◌++◌, ◌||◌, ℕ, ◌<◌, get_or, length, take, is_some, ◌==◌, not}
 use Rattle.std.proofs.lemmas.Bool.{cases_Bool, cond-true, cond-false, true≢false, or_right, eq-eqb}
 use Rattle.std.proofs.lemmas.List.Sums.{sum_by-cons, count_by-le-length}
 use Rattle.std.specs.List.{find, count_by, filter, Contains, list_any}
@@ -191,7 +192,8 @@ any-none p (x ∷ xs) e t = elim (cases_Bool (p x)) [
 ]
 
 -- one test that passes more
-pub any-more : {A : Type 0} (p q : A → Bool) (xs : List A) → ((x : A) → p x ≡ true → q x ≡ true) → list_any p xs ≡ true → list_any q xs ≡ true
+pub any-more : {A : Type 0} (p q : A → Bool) (xs : List A) → ((x : A) → p x ≡ true → q x ≡ true)
+    → list_any p xs ≡ true → list_any q xs ≡ true
 any-more p q [] more e = e
 any-more p q (x ∷ xs) more e = by (any-more p q xs more) (p x) refl e
   where

@@ -1,5 +1,6 @@
 -- Lists that a rule makes from each item, put one behind the other.
-use Rattle.std.proofs.Common.{◌≡◌, ℕ, zero, suc, ◌+◌, ◌<◌, ◌≤◌, List, [], ◌++◌, refl, ap, ◌∙◌, arith, ◌≢◌, inl, inr, sym, append-nil, ◌∷◌, Bool, cond, filter, length, take, get_or, slice_get, Some}
+use Rattle.std.proofs.Common.{◌≡◌, ℕ, zero, suc, ◌+◌, ◌<◌, ◌≤◌, List, [], ◌++◌, refl, ap, ◌∙◌, arith, ◌≢◌, inl, inr, sym, append-nil, ◌∷◌}
+use Rattle.std.proofs.Common.{Bool, cond, filter, length, take, get_or, slice_get, Some}
 use Rattle.std.specs.List.{flat_map, range_with_len, All, count_by, sum_by}
 use Rattle.std.proofs.lemmas.List.Concat.{flat_map-cons, flat_map-append, get_or-flat_map}
 use Rattle.std.proofs.lemmas.Bool.{cases_eq, cases_Bool}
@@ -69,7 +70,8 @@ count-flat_map_filter p q g (x ∷ xs) =
     elim (cases_Bool (q x)) [
       | inl t ↦
           let one = ap (λ b. cond b (count_by p (g x)) 0) t in
-          let front = ap (λ b. count_by p (flat_map g (cond b (x ∷ filter q xs) (filter q xs)))) t ∙ count-append p (g x) (flat_map g (filter q xs)) in
+          let front = ap (λ b. count_by p (flat_map g (cond b (x ∷ filter q xs) (filter q xs)))) t
+          ∙ count-append p (g x) (flat_map g (filter q xs)) in
           omega arith
       | inr f ↦
           let one = ap (λ b. cond b (count_by p (g x)) 0) f in

@@ -15,11 +15,13 @@ least-whole P end (Some l) past (h, bad, below) = (bad, below)
 
 -- one number more holds
 pub below-next : (P : ℕ → Type 0) (end : ℕ) (o : Option ℕ) → P end → IsLeastBelow P end o → IsLeastBelow P (end + 1) o
-below-next P end None here below = λ n h. elim (cases_lt n end) [ inl lt ↦ below n lt | inr ge ↦ let e : end ≡ n = omega arith in subst P e here ]
+below-next P end None here below = λ n h.
+    elim (cases_lt n end) [ inl lt ↦ below n lt | inr ge ↦ let e : end ≡ n = omega arith in subst P e here ]
 below-next P end (Some l) here (h, bad, below) = (omega arith, bad, below)
 
 -- one number more fails: the first stays the first
-pub below-fails : (P : ℕ → Type 0) (end : ℕ) (o : Option ℕ) → ¬ (P end) → IsLeastBelow P end o → IsLeastBelow P (end + 1) (Some (unwrap_or o end))
+pub below-fails : (P : ℕ → Type 0) (end : ℕ) (o : Option ℕ) → ¬ (P end) → IsLeastBelow P end o
+    → IsLeastBelow P (end + 1) (Some (unwrap_or o end))
 below-fails P end None bad below = (omega arith, bad, below)
 below-fails P end (Some l) bad (h, worse, below) = (omega arith, worse, below)
 

@@ -1,5 +1,6 @@
 -- The items of lists that are made from lists.
-use Rattle.std.proofs.Common.{◌≡◌, ◌⊎◌, ◌+◌, ◌-◌, ◌<◌, ◌≤◌, ℕ, zero, suc, Bool, true, false, cond, List, [], ◌∷◌, map, refl, sym, ap, subst, inl, inr, ◌∙◌, arith, Option, Some, None}
+use Rattle.std.proofs.Common.{◌≡◌, ◌⊎◌, ◌+◌, ◌-◌, ◌<◌, ◌≤◌, ℕ, zero, suc, Bool, true, false, cond, List, [], ◌∷◌, map, refl, sym, ap, subst}
+use Rattle.std.proofs.Common.{inl, inr, ◌∙◌, arith, Option, Some, None}
 use Rattle.std.proofs.lemmas.Bool.{cases_Bool}
 use Rattle.std.proofs.lemmas.List.FromFn.{get_or-range_with_len, length-range_with_len}
 use Rattle.std.proofs.lemmas.List.Elements.{Contains-append_cases, Contains-append_left, Contains-append_right, Contains-get_or}
@@ -114,7 +115,8 @@ filter-map g p (x ∷ xs) = elim (cases_Bool (p (g x))) [
 ]
 
 -- the items that a rule gives something of
-pub Contains-from_filter_map : {X Y : Type 0} (h : X → Option Y) (xs : List X) (y : Y) → Contains (filter_map h xs) y → (x : X) × Contains xs x × (h x ≡ Some y)
+pub Contains-from_filter_map : {X Y : Type 0} (h : X → Option Y) (xs : List X) (y : Y) → Contains (filter_map h xs) y
+    → (x : X) × Contains xs x × (h x ≡ Some y)
 Contains-from_filter_map h [] y c = absurd (Contains-nil y c)
 Contains-from_filter_map {X = X} {Y = Y} h (x ∷ xs) y c = by (Contains-from_filter_map h xs y) (h x) refl c
   where
@@ -126,7 +128,8 @@ Contains-from_filter_map {X = X} {Y = Y} h (x ∷ xs) y c = by (Contains-from_fi
       | inr later ↦ let w = rest later in (w.0, Contains-later x xs w.0 w.1, w.2)
     ]
 
-pub Contains-filter_map : {X Y : Type 0} (h : X → Option Y) (xs : List X) (x : X) (y : Y) → Contains xs x → h x ≡ Some y → Contains (filter_map h xs) y
+pub Contains-filter_map : {X Y : Type 0} (h : X → Option Y) (xs : List X) (x : X) (y : Y) → Contains xs x → h x ≡ Some y
+    → Contains (filter_map h xs) y
 Contains-filter_map h [] x y c e = absurd (Contains-nil x c)
 Contains-filter_map {X = X} {Y = Y} h (z ∷ zs) x y c e = by (Contains-filter_map h zs x y) (h z) refl (Contains-cases z zs x c)
   where

@@ -43,7 +43,8 @@ pub option_or-none : {X : Type 0} (o : Option X) → option_or o None ≡ o
 option_or-none None = refl
 option_or-none (Some x) = refl
 
-pub map-or : {X Y : Type 0} (f : X → Y) (o : Option X) (x : X) → option_map f (option_or o (Some x)) ≡ option_or (option_map f o) (Some (f x))
+pub map-or : {X Y : Type 0} (f : X → Y) (o : Option X) (x : X)
+    → option_map f (option_or o (Some x)) ≡ option_or (option_map f o) (Some (f x))
 map-or f None x = refl
 map-or f (Some y) x = refl
 

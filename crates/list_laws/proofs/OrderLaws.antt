@@ -1,5 +1,6 @@
 -- Orders of numbers, and one order after another.
-use Rattle.std.proofs.Common.{◌≡◌, ℕ, ◌<◌, refl, sym, ◌∙◌, Ordering, ◌≢◌, false, ◌≤◌, true, ap, arith, ◌==◌, cond, inl, inr, eqb, subst, ◌&&◌, not}
+use Rattle.std.proofs.Common.{◌≡◌, ℕ, ◌<◌, refl, sym, ◌∙◌, Ordering, ◌≢◌, false, ◌≤◌, true, ap, arith, ◌==◌, cond, inl, inr, eqb}
+use Rattle.std.proofs.Common.{subst, ◌&&◌, not}
 use Rattle.std.specs.declared.cmp.Ordering.TheVariants.{Less, Equal, Greater}
 use Rattle.std.specs.Ordering.{nat_cmp, ordering_then, is_lt, ordering_reverse, is_gt, eq_by_cmp}
 use Rattle.std.proofs.lemmas.Cmp.{ranked, by_ranked}

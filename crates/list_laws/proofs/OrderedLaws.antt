@@ -1,5 +1,6 @@
 -- Lists that are put in order item by item: in whichever sequence, and what stands in them.
-use Rattle.std.proofs.Common.{◌≡◌, List, [], ◌∷◌, ◌++◌, filter, not, Bool, true, false, refl, sym, ap, subst, ◌∙◌, append-nil, ◌⊎◌, inl, inr, cond, arith}
+use Rattle.std.proofs.Common.{◌≡◌, List, [], ◌∷◌, ◌++◌, filter, not, Bool, true, false, refl, sym, ap, subst, ◌∙◌, append-nil, ◌⊎◌, inl}
+use Rattle.std.proofs.Common.{inr, cond, arith}
 use Rattle.list_laws.specs.Ordered.{put_in_order, in_order, IsOrder}
 use Rattle.std.specs.List.{Contains, list_all}
 use Rattle.list_laws.proofs.MemberLaws.{Contains-cases, Contains-later}
@@ -124,7 +125,8 @@ module _ {A : Type 0} {above : A → A → Bool} (o : IsOrder above) where
       ∙ ordered-back p (filter (λ x. not (q x)) xs) (filter q xs)
       ∙ both_parts p q xs
 
-pub from-put : {A : Type 0} (above : A → A → Bool) (x : A) (ys : List A) (z : A) → Contains (put_in_order above x ys) z → (x ≡ z) ⊎ Contains ys z
+pub from-put : {A : Type 0} (above : A → A → Bool) (x : A) (ys : List A) (z : A) → Contains (put_in_order above x ys) z
+    → (x ≡ z) ⊎ Contains ys z
 from-put above x [] z c = Contains-cases x [] z c
 from-put {A = A} above x (y ∷ ys) z c = by (from-put above x ys z) (above x y) c
   where

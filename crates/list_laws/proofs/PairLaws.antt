@@ -1,5 +1,6 @@
 -- Counts in a sorted list of numbers, by what stands beside an element.
-use Rattle.std.proofs.Common.{◌==◌, ℕ, List, ◌≤◌, ◌-◌, ◌≡◌, ◌≢◌, ◌<◌, suc, [], ◌∷◌, length, get_or, refl, arith, ◌∙◌, eq-eqb, zero, inl, inr, ◌+◌, ap}
+use Rattle.std.proofs.Common.{◌==◌, ℕ, List, ◌≤◌, ◌-◌, ◌≡◌, ◌≢◌, ◌<◌, suc, [], ◌∷◌, length, get_or, refl, arith, ◌∙◌, eq-eqb, zero, inl}
+use Rattle.std.proofs.Common.{inr, ◌+◌, ap}
 use Rattle.std.specs.List.{count_by}
 use Rattle.std.proofs.lemmas.Bool.{ne_eqb, cases_eq, cases_lt}
 use Rattle.list_laws.proofs.FindLaws.{count-no, count-some, count-yes}

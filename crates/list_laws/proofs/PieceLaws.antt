@@ -1,6 +1,8 @@
 -- Pieces of lists: their lengths, their items, and pieces of pieces.
-use Rattle.std.proofs.Common.{drop, take, slice_index, slice_range, ◌≡◌, ℕ, ◌+◌, ◌-◌, ◌<◌, List, arith, ◌∙◌, ap, ◌≤◌, length, length-drop, sym, leb, min, inl, inr, zero, suc, [], ◌∷◌, ◌++◌, refl, map, get_or, All, Bool, true}
-use Rattle.std.proofs.lemmas.List.{get_or-take, get_or-drop, length-take-le, drop-take, drop-drop, take-take, length-take, take_all, append_assoc, map-append, take-append-drop, map_more}
+use Rattle.std.proofs.Common.{drop, take, slice_index, slice_range, ◌≡◌, ℕ, ◌+◌, ◌-◌, ◌<◌, List, arith, ◌∙◌, ap, ◌≤◌, length, length-drop}
+use Rattle.std.proofs.Common.{sym, leb, min, inl, inr, zero, suc, [], ◌∷◌, ◌++◌, refl, map, get_or, All, Bool, true}
+use Rattle.std.proofs.lemmas.List.{get_or-take, get_or-drop, length-take-le, drop-take, drop-drop, take-take, length-take, take_all}
+use Rattle.std.proofs.lemmas.List.{append_assoc, map-append, take-append-drop, map_more}
 use Rattle.std.proofs.lemmas.Bool.{cases_Bool, leb-false, leb-true, and_parts}
 use Rattle.std.specs.Prelude.{slice_get, IsTrue}
 use Rattle.std.proofs.lemmas.List.Elements.{All-cons, All-head, All-nil, All-tail, All-contains, All-from_recursion}
@@ -37,7 +39,8 @@ slice_range-short xs i j = omega (arith, length-take (j - i) (drop i xs), length
 pub range-long : (xs : List ℕ) (a b : ℕ) → b ≤ length xs → length (slice_range xs a b) ≡ b - a
 range-long xs a b le = let x = length-take (b - a) (drop a xs) in let y = length-drop a xs in omega arith
 
-pub take-range : (xs : List ℕ) (at len n : ℕ) → n ≡ min len (length xs - at) → at ≤ length xs → slice_range xs at (at + n) ≡ take len (drop at xs)
+pub take-range : (xs : List ℕ) (at len n : ℕ) → n ≡ min len (length xs - at) → at ≤ length xs
+    → slice_range xs at (at + n) ≡ take len (drop at xs)
 take-range xs at len n is inside =
     let back : at + n - at ≡ n = omega arith in
     ap (λ k. take k (drop at xs)) (back ∙ is ∙ ap (min len) (sym (length-drop at xs))) ∙ take-short len (drop at xs)
@@ -52,7 +55,8 @@ take-range xs at len n is inside =
     ]
 
 -- some bytes that lie among the first ones
-pub take-drop-take : (whole : List ℕ) (place n most : ℕ) → place + n ≤ most → take n (drop place (take most whole)) ≡ take n (drop place whole)
+pub take-drop-take : (whole : List ℕ) (place n most : ℕ) → place + n ≤ most
+    → take n (drop place (take most whole)) ≡ take n (drop place whole)
 take-drop-take whole place n most fits =
     let split : most ≡ place + (n + (most - (place + n))) = omega arith in
     ap (λ m. take n (drop place (take m whole))) split

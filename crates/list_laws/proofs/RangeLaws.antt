@@ -1,5 +1,6 @@
 -- Pieces of lists that are made from the numbers of a range.
-use Rattle.std.proofs.Common.{◌≡◌, ◌+◌, ◌-◌, ◌<◌, ◌≤◌, ℕ, zero, suc, ◌∷◌, ◌++◌, map, take, drop, replicate, refl, ap, ◌∙◌, arith, List, length, get_or, sym, Bool, true, inl, inr}
+use Rattle.std.proofs.Common.{◌≡◌, ◌+◌, ◌-◌, ◌<◌, ◌≤◌, ℕ, zero, suc, ◌∷◌, ◌++◌, map, take, drop, replicate, refl, ap, ◌∙◌, arith, List}
+use Rattle.std.proofs.Common.{length, get_or, sym, Bool, true, inl, inr}
 use Rattle.std.specs.Prelude.{slice_range, slice_index}
 use Rattle.std.proofs.lemmas.List.{drop-map, get_or-replicate, length-replicate, drop_at, get_or_past}
 use Rattle.std.proofs.lemmas.List.FromFn.{take-map-range_with_len, length-map-range_with_len, get_or-map-range_with_len, fill_by_all}

@@ -1,6 +1,7 @@
 -- Lists that are sorted, with the same items, are one list: by a key that one of them has at most once, or by an order in which
 -- no two items tie.
-use Rattle.std.proofs.Common.{◌<◌, ◌≤◌, ℕ, List, length, get_or, ◌==◌, ◌≡◌, ◌∷◌, ap, arith, suc, cond, [], inl, inr, refl, sym, subst, ◌∙◌, eq-eqb, false, Ordering}
+use Rattle.std.proofs.Common.{◌<◌, ◌≤◌, ℕ, List, length, get_or, ◌==◌, ◌≡◌, ◌∷◌, ap, arith, suc, cond, [], inl, inr, refl, sym, subst, ◌∙◌}
+use Rattle.std.proofs.Common.{eq-eqb, false, Ordering}
 use Rattle.std.specs.List.{count_by, Contains}
 use Rattle.std.proofs.lemmas.List.Sums.{sum_by-cons}
 use Rattle.std.specs.Coded.{Coded}
@@ -85,7 +86,8 @@ same-ordered code order total ties (x ∷ xs) [] a b h =
     absurd (Contains-nil x (SameItems-Contains code (x ∷ xs) [] x h (Contains-head x xs)))
 same-ordered code order total ties (x ∷ xs) (y ∷ ys) a b h =
     let low = first-before order y ys x b (SameItems-Contains code (x ∷ xs) (y ∷ ys) x h (Contains-head x xs)) in
-    let high = first-before order x xs y a (SameItems-Contains code (y ∷ ys) (x ∷ xs) y (SameItems-sym (x ∷ xs) (y ∷ ys) h) (Contains-head y ys)) in
+    let high = first-before order x xs y a
+    (SameItems-Contains code (y ∷ ys) (x ∷ xs) y (SameItems-sym (x ∷ xs) (y ∷ ys) h) (Contains-head y ys)) in
     let same : y ≡ x = ties y x (tied (order x y) (order y x) (total.antisymm x y) low high) in
     let rest = same-ordered code order total ties xs ys (order-tail order x xs a) (order-tail order y ys b)
     (SameItems-cancel (x ∷ []) xs ys (subst (λ z. SameItems (x ∷ xs) (z ∷ ys)) same h)) in

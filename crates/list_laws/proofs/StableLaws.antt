@@ -1,5 +1,6 @@
 -- A stable sort puts a list in order.
-use Rattle.std.proofs.Common.{◌≡◌, ℕ, suc, ◌<◌, ◌≤◌, ◌&&◌, not, Bool, true, false, cond, List, [], ◌∷◌, length, get_or, refl, sym, ap, subst, ◌∙◌, arith}
+use Rattle.std.proofs.Common.{◌≡◌, ℕ, suc, ◌<◌, ◌≤◌, ◌&&◌, not, Bool, true, false, cond, List, [], ◌∷◌, length, get_or, refl, sym, ap}
+use Rattle.std.proofs.Common.{subst, ◌∙◌, arith}
 use Rattle.std.specs.Prelude.{filter}
 use Rattle.std.specs.Cmp.{IsStrictWeakOrder}
 use Rattle.std.specs.List.Sorted.{IsSortedBy, IsStableBy, ties}
@@ -121,7 +122,8 @@ module _ {A : Type 0} (lt : A → A → Bool) (o : IsStrictWeakOrder lt) where
   same-rest : (u : A) (us vs : List A) → TieAlike (u ∷ us) (u ∷ vs) → TieAlike us vs
   same-rest u us vs same x = by (ties lt x u) (same x)
     where
-      by : (b : Bool) → cond b (u ∷ filter (ties lt x) us) (filter (ties lt x) us) ≡ cond b (u ∷ filter (ties lt x) vs) (filter (ties lt x) vs)
+      by : (b : Bool) → cond b (u ∷ filter (ties lt x) us) (filter (ties lt x) us)
+          ≡ cond b (u ∷ filter (ties lt x) vs) (filter (ties lt x) vs)
           → filter (ties lt x) us ≡ filter (ties lt x) vs
       by true e = cc
       by false e = e

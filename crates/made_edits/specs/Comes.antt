@@ -41,8 +41,8 @@ pub record CanMake (view : VolumeView) (dir : ℕ) (node : Node) (units : List �
   pub units_are : All (λ unit. unit < 65536) units
   pub absent : All (λ other. are_same (volume_fold view) other.name units ≡ false) (directory_links view dir)
 
--- THE FLAGS OF THE NEW FILE, which may be a directory: its DOS flags, and those that its name tells, of a file these, of a directory that it
--- is one
+-- THE FLAGS OF THE NEW FILE, which may be a directory: its DOS flags, and those that its name tells, of a file these, of a directory that
+-- it is one
 abbrev pub first_flags : Bool → ℕ
 first_flags directory = if directory then 0 else 0x20
 

@@ -14,8 +14,8 @@ ghost use Rattle.root_puts.specs.Calls.{IsNewStandard};
 ghost use Rattle.made_edits.specs.Comes.{CanMake, ComesUnder, IsNewKey};
 ghost use Rattle.made_edits.specs.Made.{IsMade, IsMadeByCalls};
 
-/// Where a name may come, with the bits in memory right, a file that comes under it is two calls: the machine's new node comes, and gets the
-/// name; and both are one edit that takes a record and three parts, of a directory one that has a name.
+/// Where a name may come, with the bits in memory right, a file that comes under it is two calls: the machine's new node comes, and gets
+/// the name; and both are one edit that takes a record and three parts, of a directory one that has a name.
 pub fn made_calls()
     ensures { (old new : VolumeView) (was now : Mounted) (dir n : ℕ) (node : Node) (units standard key : List ℕ) (moment security : ℕ)
         (directory : Bool) → CanMake old dir node units → AreRight old (marks_of was) → IsNewKey old directory dir units moment key
@@ -24,8 +24,8 @@ pub fn made_calls()
         → IsMadeByCalls directory old new (marks_of was) (marks_of now) n dir units moment security }
 {}
 
-/// Where the stored bits are those in memory too, the volume is sound then, its stored bits are those in memory, attributes of the directory
-/// can be set, and it reads as before but for the node and its link (`made`). The machine may choose that number (`fresh`).
+/// Where the stored bits are those in memory too, the volume is sound then, its stored bits are those in memory, attributes of the
+/// directory can be set, and it reads as before but for the node and its link (`made`). The machine may choose that number (`fresh`).
 pub fn made()
     ensures made { (old new : VolumeView) (was now : Mounted) (dir n : ℕ) (node : Node) (units standard key : List ℕ) (moment security : ℕ)
         (directory : Bool) → CanMake old dir node units → AreRight old (marks_of was) → IsNewKey old directory dir units moment key

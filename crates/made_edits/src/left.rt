@@ -22,8 +22,8 @@ pub fn left_made()
 {}
 
 /// And beside that: streams gain no cluster, names of other files keep their values, all indexes their headers, records and bits, and `$R`
-/// and `$O` their keys; the directory has one entry more, which is current (`rest`). Where the value of its `$STANDARD_INFORMATION` is plain,
-/// the file is a new one as it is to be, and so is its name (`fresh`).
+/// and `$O` their keys; the directory has one entry more, which is current (`rest`). Where the value of its `$STANDARD_INFORMATION` is
+/// plain, the file is a new one as it is to be, and so is its name (`fresh`).
 pub fn rest_made()
     ensures rest { (old new : VolumeView) (was now : Mounted) (dir n : ℕ) (node : Node) (units standard key : List ℕ) (moment security : ℕ)
         (directory : Bool) → CanMake old dir node units → AreRight old (marks_of was) → IsNewKey old directory dir units moment key

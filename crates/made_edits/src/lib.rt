@@ -1,5 +1,5 @@
-//! An empty file, or a directory, that comes under a name in a free record: what the volume is then, and what it reads as. Laws with nothing
-//! to run.
+//! An empty file, or a directory, that comes under a name in a free record: what the volume is then, and what it reads as. Laws with
+//! nothing to run.
 #![tactic(auto)]
 
 mod between;

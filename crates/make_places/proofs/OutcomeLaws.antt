@@ -150,7 +150,8 @@ module _ (facts : Facts) (view : VolumeView) (opens : List OpenEntry) (now sessi
         by_bad : (p : Place) → resolve_new tree path ≡ Ok (Some p) → (b : Bool) → is_bad_name p.name ≡ b
             → outcome facts m session (made_command directory path) ≡ and_then (place_wanted tree path) if_made
         by_bad p e true b =
-            bad directory p e b ∙ sym (ap (λ r. and_then r if_made) (ap placed_by e ∙ ap (λ x. if x then Err no.BadName else unless_there tree p) b))
+            bad directory p e b
+            ∙ sym (ap (λ r. and_then r if_made) (ap placed_by e ∙ ap (λ x. if x then Err no.BadName else unless_there tree p) b))
         by_bad p e false b =
             by_same p e b (ap placed_by e ∙ ap (λ x. if x then Err no.BadName else unless_there tree p) b)
             (has_same tree p.directory p.name) refl
@@ -175,7 +176,8 @@ module _ (facts : Facts) (view : VolumeView) (opens : List OpenEntry) (now sessi
         last false None e = refl
         last false (Some why) e = cc
 
-    pub make-refused : (why : No) → make_wanted view directory path ≡ Err why → outcome facts m session (made_command directory path) ≡ Err why
+    pub make-refused : (why : No) → make_wanted view directory path ≡ Err why
+        → outcome facts m session (made_command directory path) ≡ Err why
     make-refused why made = outcome-is ∙ by (place_wanted tree path) made
       where
         last : (p : Place) (b : Bool) (o : Option No) → (if b then Err no.Unbuilt else if_room o p.directory) ≡ Err why

@@ -303,7 +303,8 @@ module _ {D : Type 0} (g : Ghosts D) (directory : Bool) (path : List (List ℕ))
   undecided-due {old = old} why call =
       tells call refl (λ told says. by (make_decided (view g old) path) why says (make-last (view g old) directory path))
     where
-      by : (r : Result ℕ No) (why : Stop) → Says r (Err why) → due (view g old) ≡ and_then r (λ k. if_room (room_to_make (view g old) directory k) k)
+      by : (r : Result ℕ No) (why : Stop) → Says r (Err why)
+          → due (view g old) ≡ and_then r (λ k. if_room (room_to_make (view g old) directory k) k)
           → Says (due (view g old)) (Err why)
       by r stop.Device says e = tt
       by (Err x) (stop.No refused) (inl same) e = inl (e ∙ same)

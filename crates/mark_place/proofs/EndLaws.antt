@@ -29,7 +29,8 @@ pub outside-behind : (size f : ℕ) (extents : List Part) (v w : ℕ) → AreAtt
 outside-behind size f extents v w s out le =
     spot_at-exact size f extents w s ∙ spot_of-end (joined_runs s.ordered) v w (sym (spot_at-exact size f extents v s) ∙ out) le
 
-pub end-none : (size f : ℕ) (extents : List Part) (layout : TableLayout) (v upto : ℕ) → 0 < layout.cluster_sectors → AreAttribute size f extents
+pub end-none : (size f : ℕ) (extents : List Part) (layout : TableLayout) (v upto : ℕ) → 0 < layout.cluster_sectors
+    → AreAttribute size f extents
     → spot_at extents v ≡ Outside → NoneFrom layout (spot_at extents) (v * layout.cluster_sectors) upto
 end-none size f extents layout v upto some s out k low high =
     ap (place_at layout k) (outside-behind size f extents v (k / layout.cluster_sectors) s out ((le-div_iff_mul-le some).1 low))

@@ -1,7 +1,7 @@
 -- WHAT LIES APART FROM THE MARK AND THE LOG: the sectors of a record and of its copy, those of an attribute that is no $DATA, or one of a
 -- file that is neither `$MFT`, its mirror, nor the log, and those of a cluster without an owner.
-use Rattle.std.proofs.Common.{◌≡◌, ◌≢◌, ◌+◌, ◌*◌, ◌/◌, ◌%◌, ◌<◌, ◌≤◌, ℕ, Bool, true, false, cond, List, [], ◌∷◌, ◌++◌, length, Option, Some, None}
-use Rattle.std.proofs.Common.{refl, sym, ap, subst, inl, inr, ◌∙◌, arith}
+use Rattle.std.proofs.Common.{◌≡◌, ◌≢◌, ◌+◌, ◌*◌, ◌/◌, ◌%◌, ◌<◌, ◌≤◌, ℕ, Bool, true, false, cond, List, [], ◌∷◌, ◌++◌, length, Option, Some}
+use Rattle.std.proofs.Common.{None, refl, sym, ap, subst, inl, inr, ◌∙◌, arith}
 use Rattle.std.specs.Prelude.{◌⊎◌, Contains, IfSome, IsSomeAnd, IsTrue, filter, is_none, nat_lt, option_to_list, unwrap_or}
 use Rattle.std.specs.List.{range_with_len}
 use Rattle.std.specs.Option.{option_map}
@@ -100,9 +100,15 @@ record-sector : (layout : TableLayout) (n sector : ℕ) → Contains (record_pla
 record-sector layout n sector c =
     elim (Contains-append_cases (option_to_list (table_place layout (2 * n)) ++ option_to_list (table_place layout (2 * n + 1)))
     (cond (nat_lt n 4) (two_from (mirror_sector layout + 2 * n)) []) sector c) [
-      | inl both ↦ elim (Contains-append_cases (option_to_list (table_place layout (2 * n))) (option_to_list (table_place layout (2 * n + 1)))
+      | inl both ↦ elim (Contains-append_cases (option_to_list (table_place layout (2 * n)))
+          (option_to_list (table_place layout (2 * n + 1)))
           sector both) [
-            | inl a ↦ inl (record { k = 2 * n; low = omega arith; high = omega arith; is = from-option (table_place layout (2 * n)) sector a })
+            | inl a ↦ inl (record {
+              k = 2 * n;
+              low = omega arith;
+              high = omega arith;
+              is = from-option (table_place layout (2 * n)) sector a;
+            })
             | inr b ↦ inl (record {
               k = 2 * n + 1;
               low = omega arith;
@@ -121,7 +127,8 @@ record-sector layout n sector c =
           record { k = 2 * n + 1; low = omega arith; high = omega arith; few = omega (arith, few); is = omega (arith, e) }
     ]
 
-    by : (b : Bool) → nat_lt n 4 ≡ b → Contains (cond b (two_from (mirror_sector layout + 2 * n)) []) sector → IsMirrorSector layout n sector
+    by : (b : Bool) → nat_lt n 4 ≡ b → Contains (cond b (two_from (mirror_sector layout + 2 * n)) []) sector
+        → IsMirrorSector layout n sector
     by true e c = two (ltb-true n 4 e) c
     by false e c = absurd (Contains-nil sector c)
 
@@ -145,7 +152,8 @@ module _ (view : VolumeView) (o : HasOwners view) (some : 0 < view.layout.cluste
       let m = mirror-holds view o s few some in
       no-shared view o MFT MFT_MIRROR o.table.part m.part c o.table.among m.among
       (files-apart view MFT MFT_MIRROR o.table.part m.part (λ q. omega (arith, q)) o.table.among m.among)
-      (subst (λ runs. 1 ≤ times_covered runs c) (sym o.table.runs) covers) (subst (λ k. 1 ≤ times_covered (part_runs m.part) k) at m.covered)
+      (subst (λ runs. 1 ≤ times_covered runs c) (sym o.table.runs) covers)
+      (subst (λ k. 1 ≤ times_covered (part_runs m.part) k) at m.covered)
 
   -- THE LOG: a sector of it lies in a part of its file
   log-part : (n : ℕ) → IsOfLog view n → IsOwnPart view LOG_FILE (n / per)

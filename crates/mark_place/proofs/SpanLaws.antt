@@ -1,5 +1,6 @@
 -- The spans of a stream, run by run.
-use Rattle.std.proofs.Common.{◌≡◌, ◌+◌, ◌-◌, ◌*◌, ◌/◌, ◌%◌, ◌<◌, ◌≤◌, ℕ, List, [], ◌∷◌, ◌++◌, length, get_or, Option, Some, None, inl, inr, refl, sym, ap, subst, ◌∙◌, arith}
+use Rattle.std.proofs.Common.{◌≡◌, ◌+◌, ◌-◌, ◌*◌, ◌/◌, ◌%◌, ◌<◌, ◌≤◌, ℕ, List, [], ◌∷◌, ◌++◌, length, get_or, Option, Some, None, inl, inr}
+use Rattle.std.proofs.Common.{refl, sym, ap, subst, ◌∙◌, arith}
 use Rattle.std.proofs.Math.ListN.{get_or-append}
 use Rattle.std.proofs.Math.Nat.{add-mul, mul-add-div_right, mul-add-mod_self_right}
 use Rattle.std.proofs.lemmas.Bool.{cases_lt}
@@ -60,7 +61,8 @@ module _ (layout : TableLayout) (spot : ℕ → Spot) (vcn clusters len : ℕ) (
   pub hole-none : (from : ℕ) → from ≡ vcn * per → lcn ≡ None → NoneFrom layout spot from (from + len)
   hole-none from e is k low high =
       let at : k ≡ vcn * per + (k - from) = omega (arith, e, low) in
-      let hole : spot (k / per) ≡ Hole = ap (λ n. spot (n / per)) at ∙ spot-here (k - from) (omega (arith, low, high)) ∙ ap (λ o. spot_on o ((k - from) / per)) is in
+      let hole : spot (k / per) ≡ Hole = ap (λ n. spot (n / per)) at ∙ spot-here (k - from) (omega (arith, low, high))
+      ∙ ap (λ o. spot_on o ((k - from) / per)) is in
       ap (place_at layout k) hole
 
   -- the run does not lie past the disk
@@ -101,7 +103,8 @@ module _ (layout : TableLayout) (spot : ℕ → Spot) (vcn clusters len : ℕ) (
             record {
               i = length spans;
               among = omega (arith, count-is);
-              within = subst (λ x. IsWithin x n) (sym last-is) (omega (arith, n_is, first), omega (arith, n_is, first, long, s.below, high));
+              within = subst (λ x. IsWithin x n) (sym last-is)
+                  (omega (arith, n_is, first), omega (arith, n_is, first, long, s.below, high));
             }
       ];
       inside = λ n h. elim (cases_lt h.i (length spans)) [

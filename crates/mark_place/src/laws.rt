@@ -48,7 +48,8 @@ pub fn log_laws()
 /// What an edit writes lies apart from the mark and from the log, where no cluster has two owners: the sectors of a record, and
 /// those of its copy where it has one, are none of the flag's on a sound volume unless the record is one of `$Volume`
 /// (`records`), and lie in no span of the log (`records_log`). So are those of an attribute that is no `$DATA`, as the
-/// records of an index, and of a stream of another file than the table, its mirror and the log (`streams`, `streams_log`). The sectors of the flag lie in no span of the log either (`flag_log`).
+/// records of an index, and of a stream of another file than the table, its mirror and the log (`streams`, `streams_log`).
+/// The sectors of the flag lie in no span of the log either (`flag_log`).
 pub fn places_apart()
     ensures records { (view : VolumeView) (flag : Flag) (g n sector : ℕ) → IsSound view → HasOwners view
         → 0 < view.layout.cluster_sectors

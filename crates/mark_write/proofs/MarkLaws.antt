@@ -1,5 +1,6 @@
 -- The mark set and cleared_sector, and what may be left in between.
-use Rattle.std.proofs.Common.{◌≡◌, ◌≢◌, ℕ, ◌+◌, ◌-◌, ◌<◌, ◌%◌, ◌==◌, ◌||◌, Bool, true, false, cond, List, length, get_or, inl, inr, ap, subst, sym, refl, ◌∙◌, arith}
+use Rattle.std.proofs.Common.{◌≡◌, ◌≢◌, ℕ, ◌+◌, ◌-◌, ◌<◌, ◌%◌, ◌==◌, ◌||◌, Bool, true, false, cond, List, length, get_or, inl, inr, ap}
+use Rattle.std.proofs.Common.{subst, sym, refl, ◌∙◌, arith}
 use Rattle.std.specs.Prelude.{◌⊎◌, slice_set, slice_index}
 use Rattle.std.proofs.lemmas.Bool.{cases_eq}
 use Rattle.std.proofs.lemmas.Bool.Decides.{nat_tests}
@@ -24,13 +25,15 @@ with_bit-set xs at l = let e = get_or-set_same xs at (slice_index xs at + (1 - s
 pub without-with : (xs : List ℕ) (at : ℕ) → at < length xs → without_bit (with_bit xs at) at ≡ without_bit xs at
 without-with xs at l =
     let e = get_or-set_same xs at (slice_index xs at + (1 - slice_index xs at % 2)) 0 l in
-    let same : slice_index (with_bit xs at) at - slice_index (with_bit xs at) at % 2 ≡ slice_index xs at - slice_index xs at % 2 = omega (arith, e) in
+    let same : slice_index (with_bit xs at) at - slice_index (with_bit xs at) at % 2 ≡ slice_index xs at - slice_index xs at % 2 =
+    omega (arith, e) in
     ap (λ b. slice_set (with_bit xs at) at b) same ∙ set-twice xs at _ _ l
 
 pub without-without : (xs : List ℕ) (at : ℕ) → at < length xs → without_bit (without_bit xs at) at ≡ without_bit xs at
 without-without xs at l =
     let e = get_or-set_same xs at (slice_index xs at - slice_index xs at % 2) 0 l in
-    let same : slice_index (without_bit xs at) at - slice_index (without_bit xs at) at % 2 ≡ slice_index xs at - slice_index xs at % 2 = omega (arith, e) in
+    let same : slice_index (without_bit xs at) at - slice_index (without_bit xs at) at % 2 ≡ slice_index xs at - slice_index xs at % 2 =
+    omega (arith, e) in
     ap (λ b. slice_set (without_bit xs at) at b) same ∙ set-twice xs at _ _ l
 
 -- a change that clearing takes away, of one sector
@@ -75,15 +78,20 @@ module _ (flag : Flag) (old mid new : ℕ → List ℕ) (apart : flag.home ≢ f
           | inl e ↦
               let u : (n == flag.copy) ≡ true = grind (arith, nat_tests) in
               second n ne ∙ ap mid e ∙ copy ∙ ap (λ k. without_bit (old k) flag.at) (sym e)
-              ∙ sym (ap (λ b. cond (b || (n == flag.copy)) (without_bit (old n) flag.at) (old n)) t ∙ ap (λ b. cond b (without_bit (old n) flag.at) (old n)) u)
+              ∙ sym (ap (λ b. cond (b || (n == flag.copy)) (without_bit (old n) flag.at) (old n)) t
+              ∙ ap (λ b. cond b (without_bit (old n) flag.at) (old n)) u)
           | inr nc ↦
               let u : (n == flag.copy) ≡ false = grind (arith, nat_tests) in
               second n ne ∙ first n nc
-              ∙ sym (ap (λ b. cond (b || (n == flag.copy)) (without_bit (old n) flag.at) (old n)) t ∙ ap (λ b. cond b (without_bit (old n) flag.at) (old n)) u)
+              ∙ sym (ap (λ b. cond (b || (n == flag.copy)) (without_bit (old n) flag.at) (old n)) t
+              ∙ ap (λ b. cond b (without_bit (old n) flag.at) (old n)) u)
         ]
   ]
 
-  pub closed-same : flag.at < length (old flag.copy) → flag.at < length (mid flag.home) → (n : ℕ) → cleared_sector flag new n ≡ cleared_sector flag old n
+  pub closed-same : flag.at < length (old flag.copy) → flag.at < length (mid flag.home) → (n : ℕ)
+      → cleared_sector flag new n ≡ cleared_sector flag old n
   closed-same a b n =
-      cleared-one flag mid new flag.home (inl refl) (ap (λ xs. without_bit xs flag.at) home ∙ without-without (mid flag.home) flag.at b) second n
-      ∙ cleared-one flag old mid flag.copy (inr refl) (ap (λ xs. without_bit xs flag.at) copy ∙ without-without (old flag.copy) flag.at a) first n
+      cleared-one flag mid new flag.home (inl refl)
+      (ap (λ xs. without_bit xs flag.at) home ∙ without-without (mid flag.home) flag.at b) second n
+      ∙ cleared-one flag old mid flag.copy (inr refl)
+      (ap (λ xs. without_bit xs flag.at) copy ∙ without-without (old flag.copy) flag.at a) first n

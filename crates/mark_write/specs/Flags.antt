@@ -1,6 +1,7 @@
 -- The mark of a volume: bit 0 of one byte, which stands in two sectors. Where these are a `Flag` says.
 -- Layout: Linux-NTFS documentation, attribute $VOLUME_INFORMATION, the flags.
-use Rattle.std.specs.Prelude.{◌≡◌, ◌≢◌, ◌⊎◌, ◌==◌, ◌||◌, ◌+◌, ◌-◌, ◌%◌, ◌<◌, ℕ, Bool, List, Some, if◌then◌else◌, length, slice_index, slice_set}
+use Rattle.std.specs.Prelude.{◌≡◌, ◌≢◌, ◌⊎◌, ◌==◌, ◌||◌, ◌+◌, ◌-◌, ◌%◌, ◌<◌, ℕ, Bool, List, Some, if◌then◌else◌}
+use Rattle.std.specs.Prelude.{length, slice_index, slice_set}
 use Rattle.vol_disk.specs.Contents.{sector_in}
 use Rattle.mark_write.specs.declared.flag.Flag.{Flag}
 

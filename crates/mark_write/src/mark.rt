@@ -37,11 +37,14 @@ fn write_bit<D: Disk>(
     requires plain { IsTold (image D.Disk stage.old) → ¬ (Contains (places D.Disk stage.old) sector) }
     ensures goes_on { GoesOn D.Disk stage.old stage.new }
     ensures image { OnOk result (IsTold (image D.Disk stage.old)
-        → PutsSector (image D.Disk stage.old) (image D.Disk stage.new) sector (with_bit_as set (sector_in (image D.Disk stage.old) sector) at)) }
+        → PutsSector (image D.Disk stage.old) (image D.Disk stage.new) sector
+        (with_bit_as set (sector_in (image D.Disk stage.old) sector) at)) }
     ensures now { OnOk result (IsTold (image D.Disk stage.old)
-        → PutsSector (D.now (disk_of D.Disk stage.old)) (D.now (disk_of D.Disk stage.new)) sector (with_bit_as set (sector_in (D.now (disk_of D.Disk stage.old)) sector) at)) }
+        → PutsSector (D.now (disk_of D.Disk stage.old)) (D.now (disk_of D.Disk stage.new)) sector
+        (with_bit_as set (sector_in (D.now (disk_of D.Disk stage.old)) sector) at)) }
     ensures failed { OnErr result (IsTold (image D.Disk stage.old) → (D.now (disk_of D.Disk stage.new) ≡ D.now (disk_of D.Disk stage.old))
-        ⊎ (PutsSector (D.now (disk_of D.Disk stage.old)) (D.now (disk_of D.Disk stage.new)) sector (with_bit_as set (sector_in (D.now (disk_of D.Disk stage.old)) sector) at)
+        ⊎ (PutsSector (D.now (disk_of D.Disk stage.old)) (D.now (disk_of D.Disk stage.new)) sector
+        (with_bit_as set (sector_in (D.now (disk_of D.Disk stage.old)) sector) at)
         × (length (sector_in (D.now (disk_of D.Disk stage.old)) sector) ≡ 512))) }
     ensures long { OnOk result (IsTold (image D.Disk stage.old) → length (sector_in (D.now (disk_of D.Disk stage.old)) sector) ≡ 512) }
     ensures long_image { OnOk result (IsTold (image D.Disk stage.old) → length (sector_in (image D.Disk stage.old) sector) ≡ 512) }

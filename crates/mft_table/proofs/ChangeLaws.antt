@@ -1,5 +1,6 @@
 -- Changes of the tables, noted and undone.
-use Rattle.std.proofs.Common.{◌≡◌, ℕ, zero, suc, add-zero, ◌+◌, ◌-◌, ◌<◌, ◌≤◌, Bool, true, false, List, [], ◌∷◌, ◌++◌, length, take, drop, Some, refl, sym, ap, subst, ◌∙◌, arith, length-take}
+use Rattle.std.proofs.Common.{◌≡◌, ℕ, zero, suc, add-zero, ◌+◌, ◌-◌, ◌<◌, ◌≤◌, Bool, true, false, List, [], ◌∷◌, ◌++◌, length, take, drop}
+use Rattle.std.proofs.Common.{Some, refl, sym, ap, subst, ◌∙◌, arith, length-take}
 use Rattle.std.specs.Prelude.{replicate, slice_get}
 use Rattle.std.proofs.Math.Seq.{drop-append-add, drop-append_seam, take-append_seam}
 use Rattle.std.proofs.lemmas.List.{length-replicate, take-append-drop}
@@ -10,7 +11,8 @@ use Rattle.cluster_bitmap.proofs.TakenLaws.{put-inside, put-same}
 use Rattle.mft_table.specs.declared.changes.Change.{Change}
 use Rattle.mft_table.specs.declared.changes.Change.TheVariants.{Gave, GaveRecord, Took, TookRecord}
 use Rattle.mft_table.specs.declared.mounted.Mounted.{Mounted}
-use Rattle.mft_table.specs.Changes.{ShowAll, Shows, before, before_all, with_clusters_given, with_clusters_taken, with_record_given, with_record_taken}
+use Rattle.mft_table.specs.Changes.{ShowAll, Shows, before, before_all, with_clusters_given}
+use Rattle.mft_table.specs.Changes.{with_clusters_taken, with_record_given, with_record_taken}
 use Rattle.mft_table.specs.Mounted.{StandsOn}
 use Rattle.mft_table.specs.Tables.{layout_on}
 use Rattle.volume_def.specs.Table.{LiesOn}
@@ -38,7 +40,8 @@ put-twice value first flags at len fits =
     let high : drop (at + len) (take at flags ++ rest) ≡ drop (at + len) flags =
     subst (λ n. drop (n + len) (take at flags ++ rest) ≡ drop (at + len) flags) front
     (drop-append-add (take at flags) rest len
-    ∙ subst (λ n. drop n rest ≡ drop (at + len) flags) (length-replicate len first) (drop-append_seam (replicate len first) (drop (at + len) flags))) in
+    ∙ subst (λ n. drop n rest ≡ drop (at + len) flags) (length-replicate len first)
+    (drop-append_seam (replicate len first) (drop (at + len) flags))) in
     ap (λ l. l ++ (replicate len value ++ drop (at + len) (take at flags ++ rest))) low
     ∙ ap (λ l. take at flags ++ (replicate len value ++ l)) high
 

@@ -18,7 +18,8 @@ pub failing-read : (now : Option (List ℕ)) (image sector : List ℕ) (size : �
     → IfSome now (λ all. length all ≡ 512 * size) → now ≡ Some image
     → sector ≡ boot_sector image → boot_failing sector size ≡ failing → boot_failing (boot_sector image) (length image / 512) ≡ failing
 failing-read now image sector size failing len told read fails =
-    sym (ap (λ (n : ℕ). boot_failing sector n) (sectors_told now image size len told) ∙ ap (λ (s : List ℕ). boot_failing s (length image / 512)) read) ∙ fails
+    sym (ap (λ (n : ℕ). boot_failing sector n) (sectors_told now image size len told)
+    ∙ ap (λ (s : List ℕ). boot_failing s (length image / 512)) read) ∙ fails
 
 -- where the boot clause holds, what was found by its geometry
 module _ (now now' : Option (List ℕ)) (sector : List ℕ) (size : ℕ) (geometry : Geometry) (same : now' ≡ now)

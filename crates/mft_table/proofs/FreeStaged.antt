@@ -68,7 +68,8 @@ module _ {D : Type 0} (g : Ghosts D) where
       committed = one.committed;
     }
 
-    module _ (c : Mft D g) (calm : g.faults (disk_of g (stage_of g b)) ≡ g.faults (disk_of g (stage_of g a))) (two : MftReserves g b c) where
+    module _ (c : Mft D g) (calm : g.faults (disk_of g (stage_of g b)) ≡ g.faults (disk_of g (stage_of g a)))
+        (two : MftReserves g b c) where
       pub view-both : view g c ≡ view g a
       view-both = view-reserved g b c two ∙ view-read
 

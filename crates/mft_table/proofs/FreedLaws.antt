@@ -1,5 +1,6 @@
 -- A record that was read, freed in its fields, sealed and staged is one that was freed.
-use Rattle.std.proofs.Common.{◌≡◌, ◌⊎◌, ℕ, ◌+◌, ◌%◌, ◌<◌, ◌≤◌, ◌==◌, ◌&&◌, Bool, false, true, List, length, get_or, inl, inr, refl, ap, ◌∙◌, arith}
+use Rattle.std.proofs.Common.{◌≡◌, ◌⊎◌, ℕ, ◌+◌, ◌%◌, ◌<◌, ◌≤◌, ◌==◌, ◌&&◌, Bool, false, true, List, length, get_or, inl, inr, refl}
+use Rattle.std.proofs.Common.{ap, ◌∙◌, arith}
 use Rattle.std.specs.Prelude.{codes, nat_eq}
 use Rattle.std.specs.List.{starts_with}
 use Rattle.std.proofs.lemmas.Bool.{ne_eqb}
@@ -33,8 +34,10 @@ module _ (was now stored : List ℕ) (set : SetsFreed was now) (seals : Seals no
   pub FreesRecord-sealed : FreesRecord was (opened_of stored)
   FreesRecord-sealed = record {
     len = seals.same.len ∙ set.len;
-    sequence = (let e : sequence_of (opened_of stored) ≡ sequence_of now = omega (arith, same 0x10 (omega arith), same 0x11 (omega arith)) in e) ∙ set.sequence;
-    flags = (let e : record_flags (opened_of stored) ≡ record_flags now = omega (arith, same 0x16 (omega arith), same 0x17 (omega arith)) in e) ∙ set.flags;
+    sequence = (let e : sequence_of (opened_of stored) ≡ sequence_of now =
+        omega (arith, same 0x10 (omega arith), same 0x11 (omega arith)) in e) ∙ set.sequence;
+    flags = (let e : record_flags (opened_of stored) ≡ record_flags now =
+        omega (arith, same 0x16 (omega arith), same 0x17 (omega arith)) in e) ∙ set.flags;
     others = λ k kept. (elim kept.array [
       | inl low ↦ seals.same.below k (omega (arith, set.place))
       | inr high ↦ seals.same.above k (omega (arith, end-same))

@@ -30,7 +30,8 @@ module _ {D : Type 0} (g : Ghosts D) (old mid : Stage D g) (layout : TableLayout
   pub replaces-plain : IsApart layout → 4 ≤ n → 1024 * n + 1024 ≤ layout.initialized → length stored ≡ 1024
       → ReplacesBlock (seen g old layout) (seen g mid layout) n stored
   replaces-plain is far inside len =
-      subst (λ told. ReplacesBlock (seen g old layout) (view_of told (sector_in (image g mid)) layout) n stored) (sym two.goes_on.told_image)
+      subst (λ told. ReplacesBlock (seen g old layout) (view_of told (sector_in (image g mid)) layout) n stored)
+      (sym two.goes_on.told_image)
       (ReplacesBlock-plain (is_some (image g old)) (sector_in (image g old)) (sector_in (image g mid)) layout n low high stored is e f
       (written is) far inside len)
 
@@ -38,7 +39,8 @@ module _ {D : Type 0} (g : Ghosts D) (old mid : Stage D g) (layout : TableLayout
       (again : StagesTwo g mid new first (first + 1) stored) where
     copied : WritesTwo (is_some (image g old)) (sector_in (image g mid)) (sector_in (image g new)) (mirror_sector layout + 2 * n)
         (mirror_sector layout + 2 * n + 1) stored
-    copied = subst (λ first. WritesTwo (is_some (image g old)) (sector_in (image g mid)) (sector_in (image g new)) first (first + 1) stored) at
+    copied =
+        subst (λ first. WritesTwo (is_some (image g old)) (sector_in (image g mid)) (sector_in (image g new)) first (first + 1) stored) at
         (subst (λ told. WritesTwo told (sector_in (image g mid)) (sector_in (image g new)) first (first + 1) stored) two.goes_on.told_image
         (again.two (λ s. absurd (omega arith))))
 
@@ -48,7 +50,8 @@ module _ {D : Type 0} (g : Ghosts D) (old mid : Stage D g) (layout : TableLayout
     replaces-mirrored is inside len =
         subst (λ told. ReplacesBlock (seen g old layout) (view_of told (sector_in (image g new)) layout) n stored)
         (sym (again.goes_on.told_image ∙ two.goes_on.told_image))
-        (ReplacesBlock-mirrored (is_some (image g old)) (sector_in (image g old)) (sector_in (image g mid)) (sector_in (image g new)) layout n low high
+        (ReplacesBlock-mirrored (is_some (image g old)) (sector_in (image g old)) (sector_in (image g mid))
+        (sector_in (image g new)) layout n low high
         stored is e f (written is) few copied inside len)
 
     places-are : record_places layout n ≡ low ∷ high ∷ first ∷ (first + 1) ∷ []

@@ -1,5 +1,6 @@
 -- Bytes of an image and of a stream, by their places.
-use Rattle.std.proofs.Common.{◌≡◌, ℕ, ◌+◌, ◌*◌, ◌/◌, ◌%◌, ◌<◌, ◌≤◌, List, [], ◌++◌, length, take, drop, get_or, replicate, Option, None, Some, refl, sym, ap, ◌∙◌, arith, append_assoc, append-nil, length-drop}
+use Rattle.std.proofs.Common.{◌≡◌, ℕ, ◌+◌, ◌*◌, ◌/◌, ◌%◌, ◌<◌, ◌≤◌, List, [], ◌++◌, length, take, drop, get_or, replicate, Option, None}
+use Rattle.std.proofs.Common.{Some, refl, sym, ap, ◌∙◌, arith, append_assoc, append-nil, length-drop}
 use Rattle.std.specs.Prelude.{IfSome, map, slice_range}
 use Rattle.std.specs.List.{range_with_len}
 use Rattle.std.proofs.lemmas.List.{drop_all, drop_at, take_at, drop-drop, length-take-le, take_all}
@@ -16,7 +17,8 @@ use Rattle.list_laws.proofs.RangeLaws.{bytes-append, bytes-list, bytes-part, byt
 
 -- What was read at the front of a buffer, and what is read next.
 bytes-more : (f : ℕ → ℕ) (old : List ℕ) (a b m n : ℕ) → a + m ≡ b
-    → take m (map f (range_with_len a m) ++ drop m old) ++ (map f (range_with_len b n) ++ drop n (drop m (map f (range_with_len a m) ++ drop m old)))
+    → take m (map f (range_with_len a m) ++ drop m old)
+    ++ (map f (range_with_len b n) ++ drop n (drop m (map f (range_with_len a m) ++ drop m old)))
     ≡ map f (range_with_len a (m + n)) ++ drop (m + n) old
 bytes-more f old a b m n e =
     let done = map f (range_with_len a m) in
@@ -65,7 +67,8 @@ sector_bytes disk count n are lt = bytes-list (disk n) (image_byte disk) (512 * 
     ap (λ q. get_or (disk q) j 0) q ∙ ap (λ r. get_or (disk ((512 * n + j) / 512)) r 0) r)
 
 -- where the disk has none
-pub no_sector_bytes : (disk : ℕ → List ℕ) (count n : ℕ) → AreSectors count disk → count ≤ n → replicate 512 0 ≡ image_bytes disk (512 * n) 512
+pub no_sector_bytes : (disk : ℕ → List ℕ) (count n : ℕ) → AreSectors count disk → count ≤ n
+    → replicate 512 0 ≡ image_bytes disk (512 * n) 512
 unfolding image_bytes
 no_sector_bytes disk count n are past = bytes-zero (image_byte disk) (512 * n) 512 (λ j h.
     ap (λ xs. get_or xs ((512 * n + j) % 512) 0) (are.ended ((512 * n + j) / 512) (omega arith)))

@@ -10,7 +10,8 @@ use Rattle.mft_table.specs.declared.mft.Mft.{Mft}
 use Rattle.mft_table.specs.Mft.{MftReads, fetched_of, stage_of}
 use Rattle.mft_table.specs.Streams.{IsSeam}
 
-GoesOn-then : {D : Type 0} (g : Ghosts D) (a b c : Stage D g) → GoesOn g a b → OnlyReads g a b → GoesOn g b c → OnlyReads g b c → GoesOn g a c
+GoesOn-then : {D : Type 0} (g : Ghosts D) (a b c : Stage D g) → GoesOn g a b → OnlyReads g a b → GoesOn g b c
+    → OnlyReads g b c → GoesOn g a c
 GoesOn-then g a b c first one second two = record {
   same_reference = second.same_reference ∙ first.same_reference;
   size = second.size ∙ first.size;
@@ -68,7 +69,12 @@ touched-add at b (suc m) zero len lt seam e = let more : suc m + 0 ≡ suc m = o
 touched-add at b (suc m) (suc n) len lt seam e = elim seam [
   | inl none ↦ absurd (omega arith)
   | inr (inl all) ↦ absurd (omega arith)
-  | inr (inr whole) ↦ omega (arith, touched at (suc m) (omega arith), touched b (suc n) (omega arith), touched at (suc m + suc n) (omega arith))
+  | inr (inr whole) ↦ omega (
+    arith,
+    touched at (suc m) (omega arith),
+    touched b (suc n) (omega arith),
+    touched at (suc m + suc n) (omega arith),
+  )
 ]
 
 -- one more piece

@@ -1,7 +1,8 @@
 -- Bytes of a stream, run by run.
 use Rattle.std.proofs.Common.{◌≡◌, ℕ, ◌+◌, ◌-◌, ◌*◌, ◌/◌, ◌%◌, ◌<◌, ◌≤◌, List, get_or, replicate, None, Some, refl, sym, ap, ◌∙◌, arith}
 use Rattle.std.specs.Prelude.{slice_index}
-use Rattle.std.proofs.Math.Nat.{add-mul, add-mul-mod_self_right, div-lt_iff_lt-mul, le-mul_of_pos_right, mul-add-div_right, mul_assoc, mul_comm}
+use Rattle.std.proofs.Math.Nat.{add-mul, add-mul-mod_self_right, div-lt_iff_lt-mul, le-mul_of_pos_right}
+use Rattle.std.proofs.Math.Nat.{mul-add-div_right, mul_assoc, mul_comm}
 use Rattle.std.proofs.lemmas.Nat.{div-add-mod', mod_below}
 use Rattle.ntfs_def.specs.declared.run_text.Run.{Run}
 use Rattle.ntfs_def.specs.Runs.{spot_of}
@@ -17,7 +18,8 @@ use Rattle.list_laws.proofs.RangeLaws.{map_ranges, bytes-zero}
 -- a byte of a run that is placed, by the sector that has it
 byte-placed : (disk : ℕ → List ℕ) (layout : TableLayout) (count lcn n : ℕ) → AreSectors count disk → 0 < layout.cluster_sectors
     → stored_byte (cluster_of disk layout) (cluster_bytes layout) (spot_on (Some lcn)) n
-    ≡ slice_index (disk ((lcn + n / cluster_bytes layout) * layout.cluster_sectors + n % cluster_bytes layout / 512)) (n % cluster_bytes layout % 512)
+    ≡ slice_index (disk ((lcn + n / cluster_bytes layout) * layout.cluster_sectors + n % cluster_bytes layout / 512))
+    (n % cluster_bytes layout % 512)
 byte-placed disk layout count lcn n are some =
     cluster_byte disk layout count (lcn + n / cluster_bytes layout) (n % cluster_bytes layout) are
     (mod_below n (cluster_bytes layout) (omega arith))
@@ -32,7 +34,8 @@ place-in_run per lcn n some =
     let b = add-mul lcn k per in
     omega (arith, whole, a, b)
 
-pub image_bytes-run : (disk : ℕ → List ℕ) (layout : TableLayout) (count lcn skip at n : ℕ) → AreSectors count disk → 0 < layout.cluster_sectors
+pub image_bytes-run : (disk : ℕ → List ℕ) (layout : TableLayout) (count lcn skip at n : ℕ) → AreSectors count disk
+    → 0 < layout.cluster_sectors
     → at ≡ 512 * (lcn * layout.cluster_sectors) + skip
     → image_bytes disk at n ≡ stored_bytes (cluster_of disk layout) (cluster_bytes layout) (spot_on (Some lcn)) skip n
 unfolding image_bytes stored_bytes

@@ -1,5 +1,6 @@
 -- The table of records on its volume.
-use Rattle.std.proofs.Common.{◌≡◌, ℕ, ◌+◌, ◌*◌, ◌/◌, ◌<◌, ◌≤◌, List, [], length, take, Option, Some, refl, sym, ap, subst, ◌∙◌, arith, length-append}
+use Rattle.std.proofs.Common.{◌≡◌, ℕ, ◌+◌, ◌*◌, ◌/◌, ◌<◌, ◌≤◌, List, [], length, take, Option, Some, refl, sym, ap, subst}
+use Rattle.std.proofs.Common.{◌∙◌, arith, length-append}
 use Rattle.std.specs.Prelude.{IsTrue}
 use Rattle.std.proofs.lemmas.Bool.Decides.{nat_tests}
 use Rattle.std.proofs.lemmas.List.{length-take, drop_all}
@@ -45,9 +46,11 @@ size_bounds per is = (grind (arith, nat_tests), grind (arith, nat_tests))
 pub lies_on : (geometry : Geometry) (size : ℕ) (record_0 : List ℕ) (layout : TableLayout) → FitsDisk geometry size
     → RecordTells geometry record_0 layout → LiesOn size layout
 lies_on geometry size record_0 layout fits tells =
-    let bounds = size_bounds layout.cluster_sectors (subst (λ n. IsTrue (is_cluster_sectors n)) (sym tells.volume.cluster_sectors) fits.cluster.1) in
+    let bounds = size_bounds layout.cluster_sectors
+    (subst (λ n. IsTrue (is_cluster_sectors n)) (sym tells.volume.cluster_sectors) fits.cluster.1) in
     let per : geometry.cluster ≡ 512 * layout.cluster_sectors = omega (arith, tells.volume.cluster_sectors, fits.cluster.0) in
-    let a : geometry.clusters * (512 * layout.cluster_sectors) ≤ 512 * size = subst (λ n. geometry.clusters * n ≤ 512 * size) per fits.on_disk in
+    let a : geometry.clusters * (512 * layout.cluster_sectors) ≤ 512 * size =
+    subst (λ n. geometry.clusters * n ≤ 512 * size) per fits.on_disk in
     let b : layout.clusters * (512 * layout.cluster_sectors) ≤ 512 * size =
     subst (λ n. n * (512 * layout.cluster_sectors) ≤ 512 * size) (sym tells.volume.clusters) a in
     record {

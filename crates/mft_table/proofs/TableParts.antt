@@ -34,7 +34,8 @@ size-whole : (geometry : Geometry) (sectors : ℕ) → FitsDisk geometry sectors
 size-whole geometry sectors fits = omega (arith, fits.cluster.0)
 
 -- the clause from what was read
-pub RecordTells-made : (geometry : Geometry) (sectors : ℕ) (record_0 : List ℕ) (stream : Attribute) (sizes : Sizes) (text : List ℕ) (runs : List Run)
+pub RecordTells-made : (geometry : Geometry) (sectors : ℕ) (record_0 : List ℕ) (stream : Attribute) (sizes : Sizes)
+    (text : List ℕ) (runs : List Run)
     → FitsDisk geometry sectors → IsRead record_0 stream sizes text runs → Fits geometry.mft geometry.cluster geometry.clusters runs sizes
     → RecordTells geometry record_0 (layout_on geometry runs sizes.initialized (sizes.real / 1024))
 RecordTells-made geometry sectors record_0 stream sizes text runs fits read told =
@@ -73,7 +74,8 @@ RecordTells-means geometry record_0 stream text layout holds read tells =
     subst (λ (t : List ℕ). MeansRuns t layout.runs) same table.means
 
 -- no layout meets it with other runs or sizes
-pub RecordTells-parts : (geometry : Geometry) (sectors : ℕ) (record_0 : List ℕ) (stream : Attribute) (sizes : Sizes) (text : List ℕ) (runs : List Run)
+pub RecordTells-parts : (geometry : Geometry) (sectors : ℕ) (record_0 : List ℕ) (stream : Attribute) (sizes : Sizes)
+    (text : List ℕ) (runs : List Run)
     (layout : TableLayout) → FitsDisk geometry sectors → IsRead record_0 stream sizes text runs → RecordTells geometry record_0 layout
     → Fits geometry.mft geometry.cluster geometry.clusters runs sizes
 RecordTells-parts geometry sectors record_0 stream sizes text runs layout fits read tells =

@@ -24,7 +24,8 @@ module _ {D : Type 0} (g : Ghosts D) where
     fetched = omega arith;
   }
 
-  module _ (a c e : Mft D g) (two : MftReserves g a c) (stage : stage_of g e ≡ stage_of g c) (committed : committed_of g e ≡ committed_of g c) where
+  module _ (a c e : Mft D g) (two : MftReserves g a c) (stage : stage_of g e ≡ stage_of g c)
+      (committed : committed_of g e ≡ committed_of g c) where
     -- a flag that was not taken
     pub reserves-flag : mounted_of g e ≡ mounted_of g c → MftReserves g a e
     reserves-flag mounted = record {
@@ -58,7 +59,8 @@ module _ {D : Type 0} (g : Ghosts D) where
         }
 
   -- A call that only reads, and one that stages behind it.
-  pub stages-read : (a b f : Mft D g) (reads : ℕ) → MftReads g a b reads → g.faults (disk_of g (stage_of g b)) ≡ g.faults (disk_of g (stage_of g a))
+  pub stages-read : (a b f : Mft D g) (reads : ℕ) → MftReads g a b reads
+      → g.faults (disk_of g (stage_of g b)) ≡ g.faults (disk_of g (stage_of g a))
       → (named : List ℕ) (most : ℕ) → ReadsAndStages g named most 0 b f → ReadsAndStages g named most reads a f
   stages-read a b f reads one calm named most two = record {
     goes_on = GoesOn-then g (stage_of g a) (stage_of g b) (stage_of g f) calm one.stage.goes_on two.goes_on;

@@ -21,8 +21,8 @@ pub record IsLeastFree (records : List Bool) (n : ℕ) : Type 0 where
   pub free : IsOrdinaryFree records n
   pub least : (m : ℕ) → m < n → IsOrdinaryFree records m → ⊥
 
--- Block n was replaced, with its copy, under the next update sequence number, and opens to the record freed, where the update sequence array of this stands behind
--- the fields that change, as the array of a record does.
+-- Block n was replaced, with its copy, under the next update sequence number, and opens to the record freed, where the update sequence
+-- array of this stands behind the fields that change, as the array of a record does.
 pub record FreesBlock (old new : VolumeView) (n : ℕ) : Type 0 where
   pub stored : List ℕ
   pub replaces : ReplacesBlock old new n stored

@@ -3,7 +3,8 @@ use Rattle.std.specs.Prelude.{◌≡◌, ◌≤◌, ◌+◌, ℕ, Bool, List, fa
 use Rattle.vol_disk.specs.Contents.{sector_in}
 use Rattle.vol_disk.specs.declared.Disk.{Ghosts}
 use Rattle.vol_stage.specs.declared.stage.Stage.{Stage}
-use Rattle.vol_stage.specs.Staged.{GoesOn, SameStaged, StageReads, StageSettles, StageWrites, StagesOnly, disk_of, image, is_broken, places, spare}
+use Rattle.vol_stage.specs.Staged.{GoesOn, SameStaged, StageReads, StageSettles, StageWrites, StagesOnly, disk_of, image}
+use Rattle.vol_stage.specs.Staged.{is_broken, places, spare}
 use Rattle.volume_def.specs.View.{VolumeView, view_of}
 use Rattle.mft_table.specs.declared.mft.Mft.{Mft}
 use Rattle.mft_table.specs.declared.mounted.Mounted.{Mounted}

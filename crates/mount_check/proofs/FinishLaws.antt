@@ -55,17 +55,20 @@ pub tables-finished : (told : Option (List ℕ)) (mounted : Mounted) (long : Opt
     → WhereTold told (λ image. HoldsTables 15 image mounted × IsClean (volume_in image mounted))
 tables-finished told mounted long tables limits decided = λ image is.
     let holds = tables image is in
-    let come = subst (λ (t : Option (List ℕ)). IsTrue (is_some t) → HasComeTo (kept_view t mounted) 11) is (come-tables told mounted tables) refl in
+    let come = subst (λ (t : Option (List ℕ)). IsTrue (is_some t) → HasComeTo (kept_view t mounted) 11) is
+    (come-tables told mounted tables) refl in
     let all = subst (λ (t : Option (List ℕ)). IsFinished long (kept_view t mounted)) is decided refl come (limits image is) in
     (record { table = holds.table; clauses = all.0; values = holds.values }, all.1)
 
 pub refusal-finished : (told : Option (List ℕ)) (mounted : Mounted) (long : Option ℕ) (refusal : MountNo)
     → WhereTold told (λ image. HoldsTables 11 image mounted)
     → WhereTold told (λ image. DecidesFirst Limits (volume_in image mounted) long)
-    → IsMountNoIf (HasComeTo (kept_view told mounted) 11 × DecidesFirst Limits (kept_view told mounted) long) (kept_view told mounted) refusal
+    → IsMountNoIf (HasComeTo (kept_view told mounted) 11 × DecidesFirst Limits (kept_view told mounted) long)
+    (kept_view told mounted) refusal
     → IsMountNo told refusal
 refusal-finished told mounted long refusal tables limits refused =
-    IsMountNo-later (HasComeTo (kept_view told mounted) 11 × DecidesFirst Limits (kept_view told mounted) long) told (mounted_layout mounted) refusal
+    IsMountNo-later (HasComeTo (kept_view told mounted) 11 × DecidesFirst Limits (kept_view told mounted) long) told
+    (mounted_layout mounted) refusal
     (λ image is. let table = (tables image is).table in record { boot_clause = table.boot; table_clause = table.clause })
     (λ so. (come-tables told mounted tables so, limits-told told mounted long limits so)) refused
 

@@ -1,5 +1,6 @@
 -- Copies of records: where they lie, and what they have of the records.
-use Rattle.std.proofs.Common.{rules, ◌≡◌, ◌+◌, ◌*◌, ◌<◌, ◌≤◌, ℕ, true, false, List, None, Option, Some, length, get_or, drop, inl, inr, refl, sym, ap, subst, ◌∙◌, arith, length-append, length-drop, length-take}
+use Rattle.std.proofs.Common.{rules, ◌≡◌, ◌+◌, ◌*◌, ◌<◌, ◌≤◌, ℕ, true, false, List, None, Option, Some, length, get_or, drop, inl, inr}
+use Rattle.std.proofs.Common.{refl, sym, ap, subst, ◌∙◌, arith, length-append, length-drop, length-take}
 use Rattle.std.specs.Prelude.{◌↔◌, IfSome, IsTrue, is_some}
 use Rattle.std.proofs.lemmas.Bool.{false≢true, cases_lt}
 use Rattle.vol_disk.specs.Contents.{sector_in}
@@ -46,7 +47,8 @@ copy-past all size layout n long past =
     omega arith
 
 pub copy-told : (told : Option (List ℕ)) (size : ℕ) (layout : TableLayout) (n : ℕ) → IsTrue (is_some told)
-    → IfSome told (λ all. length all ≡ 512 * size) → size < mirror_sector layout + 2 * n + 2 → length (copy_of (sector_in told) layout n) ≤ 512
+    → IfSome told (λ all. length all ≡ 512 * size) → size < mirror_sector layout + 2 * n + 2
+    → length (copy_of (sector_in told) layout n) ≤ 512
 copy-told None size layout n is long past = absurd (false≢true is)
 copy-told (Some all) size layout n is long past = copy-past all size layout n long past
 
@@ -58,14 +60,17 @@ short-not_sealed copy short sealed three = let count = sealed.array.count in abs
 record-count : (block : List ℕ) → header_failing block ≡ None → array_count block ≡ 3
 record-count block right = search rules
 
-pub copy-count : (view : VolumeView) (n : ℕ) → n < view.layout.count → MeetsShape view n → IsTrue (is_in_use (view.block n)) → HasCopy view n
+pub copy-count : (view : VolumeView) (n : ℕ) → n < view.layout.count → MeetsShape view n
+    → IsTrue (is_in_use (view.block n)) → HasCopy view n
     → array_count (view.copy n) ≡ 3
 copy-count view n inside shape used copy =
     let three = record-count (opened_of (view.block n)) (shape inside used).shape.header in
     let stored = view.copy n in
     let array = copy.sealed.array in
-    let low : get_or (opened_of stored) 6 0 ≡ get_or stored 6 0 = opened_of-within stored 6 (omega (arith, array.some, array.whole)) (omega arith) in
-    let high : get_or (opened_of stored) 7 0 ≡ get_or stored 7 0 = opened_of-within stored 7 (omega (arith, array.some, array.whole)) (omega arith) in
+    let low : get_or (opened_of stored) 6 0 ≡ get_or stored 6 0 =
+    opened_of-within stored 6 (omega (arith, array.some, array.whole)) (omega arith) in
+    let high : get_or (opened_of stored) 7 0 ≡ get_or stored 7 0 =
+    opened_of-within stored 7 (omega (arith, array.some, array.whole)) (omega arith) in
     let x = copy.same.front 6 (omega arith) in
     let y = copy.same.front 7 (omega arith) in
     omega arith
@@ -88,7 +93,11 @@ module _ (view : VolumeView) (n : ℕ) (come : HasComeTo view 11) (low : n < 4) 
       → copy ≡ opened_of (view.copy n) → IsTrue same ↔ Mirrors block copy
       → IsTrue same ↔ (IsTrue (is_in_use (view.block n)) → HasCopy view n)
   has-opened block copy same so block_is sealed copy_is decided = (
-    λ t _. record { sealed = sealed; same = subst (Mirrors (opened_of (view.block n))) copy_is (subst (λ b. Mirrors b copy) block_is (decided.0 t)) },
+    λ t _. record {
+      sealed = sealed;
+      same =
+          subst (Mirrors (opened_of (view.block n))) copy_is (subst (λ b. Mirrors b copy) block_is (decided.0 t));
+    },
     λ has. decided.1 (subst (λ b. Mirrors b copy) (sym block_is)
         (subst (Mirrors (opened_of (view.block n))) (sym copy_is) (has (in-use view n come (omega arith) used agrees so)).same)),
   )

@@ -1,5 +1,6 @@
 //! The copies of the first records: what they say, against the records.
-ghost use Rattle.std.specs.Prelude.{◌≡◌, ◌↔◌, ◌+◌, ◌*◌, ◌<◌, ◌≤◌, ◌++◌, ℕ, IfErr, IfNone, IfOk, IfSome, IsTrue, MatchResult, OnOk, length, slice_index};
+ghost use Rattle.std.specs.Prelude.{◌≡◌, ◌↔◌, ◌+◌, ◌*◌, ◌<◌, ◌≤◌, ◌++◌, ℕ, IfErr, IfNone, IfOk, IfSome, IsTrue, MatchResult};
+ghost use Rattle.std.specs.Prelude.{OnOk, length, slice_index};
 ghost use Rattle.vol_disk.specs.Contents.{sector_in};
 ghost use Rattle.vol_stage.specs.Staged.{disk_of, image};
 ghost use Rattle.ntfs_def.specs.Fixup.{IsSealed, array_count, opened_of};

@@ -1,5 +1,6 @@
 //! Where the mirror lies: the first clusters of the file of copies, against what the boot sector tells.
-ghost use Rattle.std.specs.Prelude.{◌≡◌, ◌↔◌, ◌+◌, ◌*◌, ◌/◌, ◌^◌, ◌<◌, ◌≤◌, ℕ, List, [], IfErr, IfOk, IsSome, IsSomeAnd, IsTrue, MatchResult};
+ghost use Rattle.std.specs.Prelude.{◌≡◌, ◌↔◌, ◌+◌, ◌*◌, ◌/◌, ◌^◌, ◌<◌, ◌≤◌, ℕ, List, [], IfErr, IfOk, IsSome};
+ghost use Rattle.std.specs.Prelude.{IsSomeAnd, IsTrue, MatchResult};
 ghost use Rattle.std.specs.Int.{div_ceil};
 ghost use Rattle.ntfs_def.specs.declared.kinds.TheConstants.{DATA};
 ghost use Rattle.ntfs_def.specs.declared.records.TheConstants.{MFT_MIRROR};

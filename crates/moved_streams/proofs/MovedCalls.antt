@@ -80,7 +80,8 @@ pub written-moved : (old new : VolumeView) (f i from : ℕ) (node : Node) (asked
     → from ≤ length held → 0 < length bytes
     → PutsGiving old new f name (Some (written from bytes held))
     (gained_by_write (cluster_bytes old.layout) (parts_at old f DATA name) from (length bytes)) [] (run ∷ [])
-written-moved old new f i from node asked name held bytes run can alone finds x begins some = written-put from bytes can finds x begins some alone
+written-moved old new f i from node asked name held bytes run can alone finds x begins some =
+    written-put from bytes can finds x begins some alone
 
 pub written-few : (old new : VolumeView) (f i from : ℕ) (node : Node) (asked name held bytes : List ℕ) (run : Run) → CanSet old f node
     → FindsPlain old f node asked name held

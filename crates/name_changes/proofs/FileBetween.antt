@@ -1,6 +1,7 @@
 -- THE VOLUME BETWEEN: the file came under its name, and its directory has the times that it had. The directory can be set, and the records,
 -- indexes and names that this asks for lie where they lay, but for the record of the file.
-use Rattle.std.proofs.Common.{◌≡◌, ◌≢◌, ◌⊎◌, ◌+◌, ◌*◌, ◌≤◌, ℕ, Bool, List, Option, None, Some, codes, filter, inl, inr, refl, sym, ap, subst, true, ◌∙◌}
+use Rattle.std.proofs.Common.{◌≡◌, ◌≢◌, ◌⊎◌, ◌+◌, ◌*◌, ◌≤◌, ℕ, Bool, List, Option, None, Some, codes, filter, inl, inr, refl, sym, ap}
+use Rattle.std.proofs.Common.{subst, true, ◌∙◌}
 use Rattle.std.proofs.lemmas.Bool.{cases_eq}
 use Rattle.std.specs.Option.{option_map}
 use Rattle.std.specs.Prelude.{Contains, IsSomeAnd, IsTrue, is_none, is_some, unwrap_or}
@@ -50,7 +51,8 @@ module _ (directory : Bool) (old mid : VolumeView) (was now : Mounted) (n dir : 
 
     left : LeavesRest old mid n dir
     left =
-        leaves-rest old mid was now dir n node units file.standard file.key moment security directory can right file.new_key file.new_standard
+        leaves-rest old mid was now dir n node units file.standard file.key moment security directory can right
+        file.new_key file.new_standard
         file.plain.long file.comes
 
     layout : mid.layout ≡ old.layout
@@ -90,12 +92,14 @@ module _ (directory : Bool) (old mid : VolumeView) (was now : Mounted) (n dir : 
     free-record sector among = (n, free.0, free-inside old (marks_of was) n right free, among)
 
     -- .. that of the directory is one of the same file
-    own-before : (g m : ℕ) → m ≡ dir → IsSomeAnd (record_on mid m) (λ r. file_of m r ≡ g) → IsSomeAnd (record_on old m) (λ r. file_of m r ≡ g)
+    own-before : (g m : ℕ) → m ≡ dir → IsSomeAnd (record_on mid m) (λ r. file_of m r ≡ g)
+        → IsSomeAnd (record_on old m) (λ r. file_of m r ≡ g)
     own-before g m same of =
         let now : file_of m left.directory.now ≡ g =
         subst (λ (o : Option Record). IsSomeAnd o (λ r. file_of m r ≡ g)) (ap (record_on mid) same ∙ left.directory.now_at) of in
         subst (λ (o : Option Record). IsSomeAnd o (λ r. file_of m r ≡ g)) (sym (ap (record_on old) same ∙ left.directory.was_at))
-        (ap (λ (base : Option Reference). unwrap_or (option_map (λ (b : Reference). b.number) base) m) (ap (λ (h : Header). h.base) (sym left.directory.header)) ∙ now)
+        (ap (λ (base : Option Reference). unwrap_or (option_map (λ (b : Reference). b.number) base) m)
+        (ap (λ (h : Header). h.base) (sym left.directory.header)) ∙ now)
 
     pub own-record : IsRecordOf old dir dir
     own-record = record {
@@ -168,7 +172,8 @@ module _ (directory : Bool) (old mid : VolumeView) (was now : Mounted) (n dir : 
         ]
 
     -- WHERE SECTORS ARE STAGED when the directory is set, in words of the volume before
-    pub set-before : (sector : ℕ) → IsOfFile mid dir sector ⊎ IsOfNames mid (names_of (records_of mid) dir) sector → IsOfMaking old dir sector
+    pub set-before : (sector : ℕ) → IsOfFile mid dir sector ⊎ IsOfNames mid (names_of (records_of mid) dir) sector
+        → IsOfMaking old dir sector
     set-before sector (inl of) = elim (file-before dir sector of) [
       | inl own ↦ inr (inr (inr (inl own)))
       | inr new ↦ inr (inl new)

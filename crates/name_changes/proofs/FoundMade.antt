@@ -68,13 +68,15 @@ module _ {D : Type 0} (directory : Bool) (g : Ghosts D) (a m : Mft D g) (found :
   pub can-set : IsLeastFree was.records n → CanWriteFile mid d
   can-set least =
       subst (CanWriteFile mid) (sym number)
-      (between.can-set directory old mid was now n dir node name moment security to_make.makeable.make is file to_make.makeable.settable.can.write
+      (between.can-set directory old mid was now n dir node name moment security to_make.makeable.make is file
+      to_make.makeable.settable.can.write
       (to_make.record_.room n least).block)
 
   -- WHERE SECTORS ARE STAGED
   pub staged : (b : Mft D g) → StagesMade g old n d a m → StagesAttributes g d (names_of (records_of mid) d) m b → StagesMaking g dir a b
   staged b first second =
-      staged-both directory g a m n dir node name moment security to_make.makeable.make is file b (subst (λ f. StagesMade g old n f a m) number first)
+      staged-both directory g a m n dir node name moment security to_make.makeable.make is file b
+      (subst (λ f. StagesMade g old n f a m) number first)
       (subst (λ f. StagesAttributes g f (names_of (records_of mid) f) m b) number second)
 
   -- WHAT THE VOLUME IS THEN, by the value of the directory's $STANDARD_INFORMATION

@@ -63,7 +63,8 @@ module _ {D : Type 0} (directory : Bool) (g : Ghosts D) (a m : Mft D g) (n dir :
   staged-both b first second =
       let had = names_of (records_of old) dir in
       let now = names_of (records_of mid) dir in
-      let many = ap length (between.names directory old mid (mounted_of g a) (mounted_of g m) n dir node units moment security can is file) in
+      let many =
+      ap length (between.names directory old mid (mounted_of g a) (mounted_of g m) n dir node units moment security can is file) in
       few-then g made_sectors (4 + 12 * length now) (made_sectors + 4 + 12 * length had) (IsOfMaking old dir) (IsOfMaking old dir)
       (λ s. IsOfFile mid dir s ⊎ IsOfNames mid now s) a m b (staged-file first) second (omega (arith, many)) (λ s of. of)
       (between.set-before directory old mid (mounted_of g a) (mounted_of g m) n dir node units moment security can is file)

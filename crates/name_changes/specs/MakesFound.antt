@@ -13,8 +13,8 @@ use Rattle.make_places.specs.NewPlace.{NewPlace}
 use Rattle.make_places.specs.Comes.{CanMake}
 use Rattle.make_places.specs.MadeEditsMakes.{MakesUnder}
 
--- THE FILE, or the directory, CAME in record `made`, under that name in that directory, which was this node, at this moment; then the moment
--- was set as the times at which that directory and its record changed. No name of it stands in a record that has a copy.
+-- THE FILE, or the directory, CAME in record `made`, under that name in that directory, which was this node, at this moment; then the
+-- moment was set as the times at which that directory and its record changed. No name of it stands in a record that has a copy.
 pub record MakesFound (directory : Bool) (old new : VolumeView) (found : NewPlace) (moment : ℕ) : Type 0 where
   pub node : Node
   pub can : CanMake old (number_within found.standing) node found.name.now

@@ -29,11 +29,13 @@ clusters_on_disk per total sectors size low =
 -- a cluster has whole sectors
 pub cluster_whole : (per : ℕ) → IsTrue (is_cluster_sectors per) → ((512 * per) % 512 ≡ 0) × IsTrue (is_cluster_sectors (512 * per / 512))
 cluster_whole per size =
-    by_cluster_size (λ n. ((512 * n) % 512 ≡ 0) × IsTrue (is_cluster_sectors (512 * n / 512))) (refl, refl) (refl, refl) (refl, refl) (refl, refl) per size
+    by_cluster_size (λ n. ((512 * n) % 512 ≡ 0) × IsTrue (is_cluster_sectors (512 * n / 512))) (refl, refl) (refl, refl)
+    (refl, refl) (refl, refl) per size
 
 pub fits_disk : (geometry : Geometry) (per sectors : ℕ) → IsTrue (is_cluster_sectors per) → geometry.cluster ≡ 512 * per
     → geometry.clusters ≡ geometry.sectors / per
-    → geometry.sectors ≤ sectors → geometry.clusters ≤ 2 ^ 26 → geometry.mft < geometry.clusters → geometry.mirror < geometry.clusters → FitsDisk geometry sectors
+    → geometry.sectors ≤ sectors → geometry.clusters ≤ 2 ^ 26 → geometry.mft < geometry.clusters → geometry.mirror < geometry.clusters
+    → FitsDisk geometry sectors
 fits_disk geometry per sectors size cluster clusters low few mft mirror = record {
   cluster = rw cluster (cluster_whole per size);
   few = few;

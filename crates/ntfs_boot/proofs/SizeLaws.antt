@@ -14,4 +14,5 @@ pow_two-exact a b h = elim (cases_order a b) [
 
 -- from 128 on a byte spells a power of two
 pub spelled_size-high : (cluster byte : ℕ) → 128 ≤ byte → spelled_size cluster byte ≡ 2 ^ (256 - byte)
-spelled_size-high cluster byte h = let e : ltb byte 128 ≡ false = le-ltb byte 128 h in ap (λ b. cond b (byte * cluster) (2 ^ (256 - byte))) e
+spelled_size-high cluster byte h = let e : ltb byte 128 ≡ false = le-ltb byte 128 h in
+    ap (λ b. cond b (byte * cluster) (2 ^ (256 - byte))) e

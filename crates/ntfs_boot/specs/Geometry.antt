@@ -1,6 +1,7 @@
 -- What a boot sector says, as this crate's types.
 use Rattle.std.specs.Prelude.{◌≡◌, ℕ, ◌*◌, ◌/◌, ◌%◌, ◌^◌, ◌<◌, ◌≤◌, IsTrue, List}
-use Rattle.ntfs_def.specs.Boot.{is_cluster_sectors, boot_cluster_bytes, total_sectors, cluster_count, mft_cluster, mirror_cluster, serial_number}
+use Rattle.ntfs_def.specs.Boot.{is_cluster_sectors, boot_cluster_bytes, total_sectors, cluster_count}
+use Rattle.ntfs_def.specs.Boot.{mft_cluster, mirror_cluster, serial_number}
 use Rattle.ntfs_boot.specs.declared.Geometry.{Geometry}
 use Rattle.ntfs_boot.specs.declared.BootFault.{BootFault}
 use Rattle.ntfs_boot.specs.declared.BootFault.TheVariants.{NotNtfs, SectorSize, ClusterSize, RecordSize, IndexSize, Length, Place}

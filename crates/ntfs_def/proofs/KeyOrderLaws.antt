@@ -1,11 +1,13 @@
--- Numbers that tie, and one order after another. Each order of keys is a total order, on all bytes, and ties exactly where the compared numbers are equal.
+-- Numbers that tie, and one order after another. Each order of keys is a total order, on all bytes,
+-- and ties exactly where the compared numbers are equal.
 use Rattle.std.proofs.Common.{◌≡◌, ◌≢◌, ◌↔◌, ◌<◌, ℕ, List, [], ◌∷◌, map, refl, sym, ap, ◌∙◌, Ordering, IsTrue, true, false}
 use Rattle.std.specs.declared.cmp.Ordering.TheVariants.{Less, Equal, Greater}
 use Rattle.std.specs.Ordering.{nat_cmp, is_eq, on, ordering_then}
 use Rattle.std.specs.Cmp.{IsTotalOrder}
 use Rattle.std.proofs.lemmas.Cmp.{by_ranked, on_total, ranked, then_total, nat_list_cmp_total, tied_itself}
 use Rattle.ntfs_def.specs.FileName.{key_units}
-use Rattle.ntfs_def.specs.KeyOrder.{by_numbers, compare_units, fold_order, hash_order, hash_parts, id_order, id_parts, name_order, word_order, word_parts}
+use Rattle.ntfs_def.specs.KeyOrder.{by_numbers, compare_units, fold_order, hash_order, hash_parts, id_order, id_parts}
+use Rattle.ntfs_def.specs.KeyOrder.{name_order, word_order, word_parts}
 
 -- numbers that tie are one, and what two orders say, one behind the other
 pub equal_numbers : (x y : ℕ) → nat_cmp x y ≡ Equal → x ≡ y

@@ -1,10 +1,14 @@
 -- An attribute that stands elsewhere, or in another list, is the same attribute.
-use Rattle.std.proofs.Common.{◌≡◌, ℕ, ◌+◌, ◌-◌, ◌*◌, ◌<◌, ◌≤◌, ◌==◌, ◌&&◌, Bool, true, false, List, Option, Some, None, length, get_or, drop, cond, inl, inr, ap, sym, refl, ◌∙◌, arith, length-drop, length-take, get_or-drop, get_or-take}
+use Rattle.std.proofs.Common.{◌≡◌, ℕ, ◌+◌, ◌-◌, ◌*◌, ◌<◌, ◌≤◌, ◌==◌, ◌&&◌, Bool, true, false, List, Option, Some, None, length, get_or}
+use Rattle.std.proofs.Common.{drop, cond, inl, inr, ap, sym, refl, ◌∙◌, arith, length-drop, length-take, get_or-drop, get_or-take}
 use Rattle.std.proofs.lemmas.Grind.{same_number_lists}
 use Rattle.std.proofs.lemmas.Bool.{cases_Bool}
 use Rattle.std.specs.Prelude.{slice_range}
 use Rattle.vol_bytes.specs.Field.{u16_at, u32_at, u64_at}
-use Rattle.ntfs_def.specs.Attribute.{Attribute, Body, ExtentHeader, Resident, NonResident, attribute_at, attribute_kind, attribute_len, attribute_flags, body_at, compressed_len, extent_at, sizes_at, is_resident, is_compressed_or_sparse, name_bytes, name_offset, name_units, name_end, content_bytes, content_offset, content_end, header_len, first_vcn, has_compressed_len, bytes_between}
+use Rattle.ntfs_def.specs.Attribute.{Attribute, Body, ExtentHeader, Resident, NonResident, attribute_at, attribute_kind, attribute_len}
+use Rattle.ntfs_def.specs.Attribute.{attribute_flags, body_at, compressed_len, extent_at, sizes_at, is_resident, is_compressed_or_sparse}
+use Rattle.ntfs_def.specs.Attribute.{name_bytes, name_offset, name_units, name_end, content_bytes, content_offset, content_end, header_len}
+use Rattle.ntfs_def.specs.Attribute.{first_vcn, has_compressed_len, bytes_between}
 use Rattle.ntfs_def.specs.declared.sizes.Sizes.{Sizes}
 use Rattle.ntfs_def.specs.Moved.{IsMoved}
 use Rattle.ntfs_def.specs.Shape.{IsWhole}

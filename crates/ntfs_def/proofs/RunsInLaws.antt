@@ -1,9 +1,11 @@
 -- The runs of a text as a function are those that it means.
-use Rattle.std.proofs.Common.{◌≡◌, inl, inr, ℕ, zero, suc, ◌+◌, ◌<◌, ℤ, pos, negsuc, true, false, cond, List, [], ◌∷◌, length, drop, Option, Some, None, refl, sym, ap, ◌∙◌, arith, length-drop}
+use Rattle.std.proofs.Common.{◌≡◌, inl, inr, ℕ, zero, suc, ◌+◌, ◌<◌, ℤ, pos, negsuc, true, false, cond, List, [], ◌∷◌, length, drop, Option}
+use Rattle.std.proofs.Common.{Some, None, refl, sym, ap, ◌∙◌, arith, length-drop}
 use Rattle.std.specs.Int.{int_gap}
 use Rattle.std.specs.Option.{option_map, is_none}
 use Rattle.ntfs_def.specs.declared.run_text.Run.{Run}
-use Rattle.ntfs_def.specs.Runs.{is_ended, run_width, run_length, run_place, RunRule, rule_broken, is_not_below_zero, BeginsWith, place_after, MeansFrom, MeansRuns, BreaksAfter, FirstBadRun, first_run, runs_from, runs_in}
+use Rattle.ntfs_def.specs.Runs.{is_ended, run_width, run_length, run_place, RunRule, rule_broken, is_not_below_zero, BeginsWith}
+use Rattle.ntfs_def.specs.Runs.{place_after, MeansFrom, MeansRuns, BreaksAfter, FirstBadRun, first_run, runs_from, runs_in}
 use Rattle.ntfs_def.proofs.RunLaws.{rule_broken-none, BeginsWith-exact}
 use Rattle.ntfs_def.proofs.RunTotality.{means_or_breaks}
 

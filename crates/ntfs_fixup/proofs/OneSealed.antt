@@ -4,7 +4,8 @@ use Rattle.std.proofs.lemmas.Bool.{cases_lt, cases_eq}
 use Rattle.std.proofs.lemmas.Grind.{same_number_lists, common_steps}
 use Rattle.vol_bytes.specs.Field.{u16_at}
 use Rattle.vol_bytes.proofs.FieldLaws.{u16_at-same}
-use Rattle.ntfs_def.specs.Fixup.{HasArray, Seals, array_place, array_end, next_number, opened_of, pair_place, sequence_number, stride_count, stride_end}
+use Rattle.ntfs_def.specs.Fixup.{HasArray, Seals, array_place, array_end, next_number, opened_of, pair_place}
+use Rattle.ntfs_def.specs.Fixup.{sequence_number, stride_count, stride_end}
 use Rattle.ntfs_def.proofs.FixupLaws.{array_place-opened_of, length-opened_of, opened_of-within}
 use Rattle.ntfs_fixup.proofs.OpenedLaws.{opened_of-end}
 

@@ -4,7 +4,8 @@ use Rattle.std.proofs.lemmas.List.{get_or_past}
 use Rattle.std.proofs.lemmas.Bool.{cases_lt}
 use Rattle.vol_bytes.specs.Field.{SameOutside, u16_at}
 use Rattle.vol_bytes.proofs.FieldLaws.{u16_at-same}
-use Rattle.ntfs_def.specs.Fixup.{HasArray, IsSealed, array_end, array_place, opened_of, pair_place, sequence_number, stride_count, stride_end}
+use Rattle.ntfs_def.specs.Fixup.{HasArray, IsSealed, array_end, array_place, opened_of, pair_place}
+use Rattle.ntfs_def.specs.Fixup.{sequence_number, stride_count, stride_end}
 use Rattle.ntfs_def.proofs.FixupLaws.{HasArray-front, array_place-front, length-opened_of, opened_of-within}
 use Rattle.ntfs_fixup.proofs.OpenedLaws.{opened_of-end}
 

@@ -3,7 +3,8 @@ use Rattle.std.proofs.Common.{◌≡◌, ℕ, ◌+◌, ◌-◌, ◌/◌, ◌%◌
 use Rattle.std.proofs.lemmas.List.{get_or_past}
 use Rattle.std.proofs.lemmas.Bool.{cases_lt, cases_eq}
 use Rattle.vol_bytes.specs.Field.{u16_at}
-use Rattle.ntfs_def.specs.Fixup.{HasArray, IsSealed, Seals, array_place, array_end, next_number, opened_of, pair_place, sequence_number, stride_count, stride_end}
+use Rattle.ntfs_def.specs.Fixup.{HasArray, IsSealed, Seals, array_place, array_end, next_number, opened_of, pair_place}
+use Rattle.ntfs_def.specs.Fixup.{sequence_number, stride_count, stride_end}
 use Rattle.ntfs_def.proofs.FixupLaws.{HasArray-front, array_place-front, length-opened_of, opened_of-within}
 use Rattle.ntfs_fixup.proofs.OpenedLaws.{opened_of-end}
 use Rattle.ntfs_fixup.specs.Marks.{Marks}

@@ -76,7 +76,8 @@ found-none es file place past none = finmap.get-from_entries nat_cmp_total es fi
 -- what a change of one file makes of the nodes
 pub nodes-changed : (tree : Tree) (es : List (ℕ × Node)) (file place : ℕ) (d : ℕ × Node) (change : Node → Node)
     → tree.nodes ≡ finmap.from_entries {R = nat_cmp} es → IsFirstOf es file place
-    → record tree { nodes = finmap.from_entries {R = nat_cmp} (set es place (file, change (get_or es place d).1)) } ≡ changed file change tree
+    → record tree { nodes = finmap.from_entries {R = nat_cmp} (set es place (file, change (get_or es place d).1)) }
+    ≡ changed file change tree
 nodes-changed tree es file place d change same is =
     ap (λ nodes. set_nodes nodes) (nodes-put es file place (change (get_or es place d).1) is
     ∙ ap (λ nodes. finmap.insert nodes file (change (get_or es place d).1)) (sym same))

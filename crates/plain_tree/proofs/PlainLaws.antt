@@ -1,6 +1,6 @@
 -- What the calls lend, the path to a directory, and a step of the machine that is kept.
-use Rattle.std.proofs.Common.{◌≡◌, ◌≢◌, ◌==◌, ◌&&◌, ◌<◌, ◌-◌, ◌++◌, arith, ℕ, zero, suc, Bool, true, false, not, List, [], ◌∷◌, Result, Ok, Err, ap, subst}
-use Rattle.std.proofs.Common.{IsErrAnd, Option, Some, refl}
+use Rattle.std.proofs.Common.{◌≡◌, ◌≢◌, ◌==◌, ◌&&◌, ◌<◌, ◌-◌, ◌++◌, arith, ℕ, zero, suc, Bool, true, false, not, List, [], ◌∷◌, Result, Ok}
+use Rattle.std.proofs.Common.{Err, ap, subst, IsErrAnd, Option, Some, refl}
 use Rattle.std.proofs.lemmas.Bool.{ne_eqb}
 use denote.Ref.{Bor}
 use Rattle.ntfs_def.specs.declared.records.TheConstants.{ROOT}

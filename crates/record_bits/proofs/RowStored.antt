@@ -1,6 +1,6 @@
 -- THE FLAG IS STORED where its bit was put into the byte of the bitmap that has it.
-use Rattle.std.proofs.Common.{◌≡◌, ◌≢◌, ◌+◌, ◌-◌, ◌*◌, ◌/◌, ◌%◌, ◌<◌, ℕ, List, [], ◌∷◌, drop, get_or, length, take, refl, sym, ap, inl, inr, ◌++◌}
-use Rattle.std.proofs.Common.{◌∙◌, arith}
+use Rattle.std.proofs.Common.{◌≡◌, ◌≢◌, ◌+◌, ◌-◌, ◌*◌, ◌/◌, ◌%◌, ◌<◌, ℕ, List, [], ◌∷◌, drop, get_or, length, take, refl, sym, ap, inl, inr}
+use Rattle.std.proofs.Common.{◌++◌, ◌∙◌, arith}
 use Rattle.std.specs.Int.{bit_at}
 use Rattle.std.specs.Prelude.{IsTrue, cond, filter, slice_index}
 use Rattle.std.proofs.lemmas.Bool.{cases_eq, cases_lt, lt-ltb}

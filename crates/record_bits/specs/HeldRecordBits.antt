@@ -22,8 +22,8 @@ use Rattle.sparse_io.specs.FileRecordHeld.{AreParts, file_number}
 use Rattle.sparse_io.specs.FirstPart.{FirstPart}
 use Rattle.sparse_io.specs.First.{TellsSizes}
 
--- THE BITMAP OF RECORDS CAN BE FOUND, and a flag of it set or cleared, also between two calls, where the volume is not sound: the files of the
--- volume can be read, no cluster has two owners, and record 0, one of those that are kept in memory, has that bitmap, in clusters.
+-- THE BITMAP OF RECORDS CAN BE FOUND, and a flag of it set or cleared, also between two calls, where the volume is not sound: the files of
+-- the volume can be read, no cluster has two owners, and record 0, one of those that are kept in memory, has that bitmap, in clusters.
 pub record HasRows (view : VolumeView) (mounted : Mounted) : Type 0 where
   pub readable : IsReadableVolume view
   pub owners : HasOwners view

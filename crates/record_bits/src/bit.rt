@@ -1,5 +1,6 @@
 //! One bit of a byte of a cluster, set or cleared.
-ghost use Rattle.std.specs.Prelude.{◌≡◌, ◌≢◌, ◌+◌, ◌*◌, ◌/◌, ◌%◌, ◌<◌, ◌≤◌, ℕ, IfErr, IsTrue, MatchResult, OnOk, false, length, slice_index};
+ghost use Rattle.std.specs.Prelude.{◌≡◌, ◌≢◌, ◌+◌, ◌*◌, ◌/◌, ◌%◌, ◌<◌, ◌≤◌, ℕ, IfErr, IsTrue, MatchResult, OnOk};
+ghost use Rattle.std.specs.Prelude.{false, length, slice_index};
 ghost use Rattle.list_laws.specs.Bits.{bit_in};
 ghost use Rattle.ntfs_def.specs.declared.run_text.Spot.{Spot};
 ghost use Rattle.ntfs_def.specs.declared.run_text.Spot.TheVariants.{At};
@@ -32,7 +33,8 @@ fn put_flag(sector: &mut [u8; 512], flag: usize, value: bool)
     sector[flag / 8] &= !(1u8 << (flag % 8));
 }
 
-/// Sets one bit in the byte of a cluster at `skip`, or clears it; the sector that holds it is staged. What would lie past the end of the disk is left.
+/// Sets one bit in the byte of a cluster at `skip`, or clears it; the sector that holds it is staged.
+/// What would lie past the end of the disk is left.
 ///
 /// # Errors
 ///

@@ -34,7 +34,8 @@ fn put_held_bit<D: Disk>(
     requires sound { is_mft_broken D.Disk mft.old ≡ false }
     ensures put { OnOk result (IsTrue (view D.Disk mft.old).told → HoldsRecordBits (view D.Disk mft.old) file.now first
         → PutsRecordBit (view D.Disk mft.old) (view D.Disk mft.new) n (bit_for value)) }
-    ensures places { HoldsRecordBits (view D.Disk mft.old) file.now first → (sector : ℕ) → Contains (places D.Disk (stage_of D.Disk mft.new)) sector
+    ensures places { HoldsRecordBits (view D.Disk mft.old) file.now first → (sector : ℕ)
+        → Contains (places D.Disk (stage_of D.Disk mft.new)) sector
         → Contains (places D.Disk (stage_of D.Disk mft.old)) sector ⊎ IsOfRecordBits (view D.Disk mft.old) sector }
     ensures few { length (places D.Disk (stage_of D.Disk mft.new)) ≤ length (places D.Disk (stage_of D.Disk mft.old)) + 1 }
     ensures disk { KeepsDisk D.Disk mft.old mft.new }

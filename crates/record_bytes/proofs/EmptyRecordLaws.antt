@@ -27,7 +27,8 @@ first-holds true b both = refl
 first-holds false b both = both
 
 -- a record that was laid, with its number written
-module _ (old new : List ℕ) (number : ℕ) (shape : HasShape old 0) (puts : SameOutside old new 0x2C 0x30) (is : u32_at new 0x2C ≡ number) where
+module _ (old new : List ℕ) (number : ℕ) (shape : HasShape old 0) (puts : SameOutside old new 0x2C 0x30)
+    (is : u32_at new 0x2C ≡ number) where
   long : length old ≡ 1024
   long = header_failing-length old shape.header
 
@@ -104,7 +105,8 @@ module _ (first : List ℕ) (new : IsNewRecord 0 (Some (blank_record 0 0 1)) fir
       let shape = HasShape-numbered first second number shape-first puts is in
       subst (HasShape second) (sym (length-attributes second 0 shape)) shape
 
-  pub IsEmptyRecord-laid : used_size first ≡ 0x40 → (second last : List ℕ) (number : ℕ) (fields : RecordHeader) → SameOutside first second 0x2C 0x30
+  pub IsEmptyRecord-laid : used_size first ≡ 0x40 → (second last : List ℕ) (number : ℕ) (fields : RecordHeader)
+      → SameOutside first second 0x2C 0x30
       → u32_at second 0x2C ≡ number → SetsHeader second last fields → IsEmptyRecord number fields last
   IsEmptyRecord-laid used second last number fields puts is sets =
       IsEmptyRecord-set second last number fields (HasShape-numbered first second number shape-first puts is) sets

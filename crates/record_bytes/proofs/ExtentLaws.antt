@@ -1,12 +1,15 @@
 -- The bytes of a non-resident attribute are the part that they were made of.
-use Rattle.std.proofs.Common.{◌≡◌, ◌≢◌, ℕ, ◌+◌, ◌*◌, ◌-◌, ◌/◌, ◌%◌, ◌^◌, ◌<◌, ◌≤◌, false, List, [], ◌∷◌, ◌++◌, Option, Some, None, take, drop, length, refl, sym, ap, subst, ◌∙◌, arith, length-append, append_assoc}
+use Rattle.std.proofs.Common.{◌≡◌, ◌≢◌, ℕ, ◌+◌, ◌*◌, ◌-◌, ◌/◌, ◌%◌, ◌^◌, ◌<◌, ◌≤◌, false, List, [], ◌∷◌, ◌++◌, Option, Some, None, take}
+use Rattle.std.proofs.Common.{drop, length, refl, sym, ap, subst, ◌∙◌, arith, length-append, append_assoc}
 use Rattle.std.specs.Prelude.{replicate, slice_range}
 use Rattle.std.proofs.Math.Seq.{take-append-add}
 use Rattle.std.proofs.lemmas.List.{append-nil, take_at, take-replicate, drop_at, drop-drop, drop-replicate, length-replicate}
 use Rattle.ntfs_def.specs.declared.kinds.TheConstants.{END}
 use Rattle.ntfs_def.specs.declared.run_text.Run.{Run}
 use Rattle.ntfs_def.specs.declared.sizes.Sizes.{Sizes}
-use Rattle.ntfs_def.specs.Attribute.{attribute_at, attribute_kind, attribute_len, attribute_id, compressed_len, content_bytes, first_vcn, last_vcn, allocated_len, real_len, initialized_len, has_compressed_len, header_len, name_bytes, runs_offset, sizes_at, value_offset}
+use Rattle.ntfs_def.specs.Attribute.{attribute_at, attribute_kind, attribute_len, attribute_id, compressed_len, content_bytes, first_vcn}
+use Rattle.ntfs_def.specs.Attribute.{last_vcn, allocated_len, real_len, initialized_len, has_compressed_len, header_len, name_bytes}
+use Rattle.ntfs_def.specs.Attribute.{runs_offset, sizes_at, value_offset}
 use Rattle.ntfs_def.specs.Runs.{EndsInReach, MeansRuns, runs_in}
 use Rattle.ntfs_def.specs.Shape.{IsOneAttribute}
 use Rattle.ntfs_def.proofs.RunsInLaws.{runs_in-means}
@@ -14,7 +17,8 @@ use Rattle.data_runs.specs.Written.{IsWritten, PutsText}
 use Rattle.data_runs.proofs.WrittenLaws.{MeansFrom-written, offset_short, short_up}
 use Rattle.volume_def.specs.Files.{Clusters}
 use Rattle.ntfs_def.specs.Rounded.{up_to_8}
-use Rattle.record_bytes.specs.AttributeBytes.{FitFields, IsExtent, IsPartBytes, IsRunTextOf, extent_bytes, extent_header, one_run, padded_bytes, runs_at}
+use Rattle.record_bytes.specs.AttributeBytes.{FitFields, IsExtent, IsPartBytes, IsRunTextOf, extent_bytes, extent_header}
+use Rattle.record_bytes.specs.AttributeBytes.{one_run, padded_bytes, runs_at}
 use Rattle.record_bytes.proofs.ResidentLaws.{length-padded_bytes, parts_same}
 use Rattle.list_laws.proofs.BoolLaws.{and-none}
 
@@ -27,10 +31,12 @@ from_same : (a r i f l a2 r2 i2 f2 l2 : ℕ) → a ≡ a2 → r ≡ r2 → i ≡
 unfolding sizes_from
 from_same a r i f l a2 r2 i2 f2 l2 e1 e2 e3 e4 e5 = cc
 
-sizes_same : (a b : Sizes) → b.allocated ≡ a.allocated → b.real ≡ a.real → b.initialized ≡ a.initialized → b.first ≡ a.first → b.last ≡ a.last → b ≡ a
+sizes_same : (a b : Sizes) → b.allocated ≡ a.allocated → b.real ≡ a.real → b.initialized ≡ a.initialized → b.first ≡ a.first
+    → b.last ≡ a.last → b ≡ a
 unfolding sizes_from
 sizes_same a b allocated real initialized first last =
-    from_same b.allocated b.real b.initialized b.first b.last a.allocated a.real a.initialized a.first a.last allocated real initialized first last
+    from_same b.allocated b.real b.initialized b.first b.last a.allocated a.real a.initialized a.first a.last allocated
+    real initialized first last
 
 clusters_same : (a b : Sizes) (x : Option ℕ) (r s : Option (List Run)) → a ≡ b → x ≡ None → r ≡ s
     → Clusters (record { sizes = a; compressed = x }) r ≡ Clusters (record { sizes = b; compressed = None }) s
@@ -164,13 +170,18 @@ pub IsStream-bytes : (kind : ℕ) (name : List ℕ) (id : ℕ) (sizes : Sizes) (
     → IsStream bytes kind name id sizes run runs
 unfolding extent_bytes
 IsStream-bytes kind name id sizes run runs bytes small_kind small_id fit short even few multiple other some bounded reach text e = record {
-  len = ap length e ∙ length-text kind name id sizes runs small_kind small_id fit.allocated fit.real fit.initialized fit.first fit.last short even few multiple;
+  len = ap length e ∙ length-text kind name id sizes runs small_kind small_id fit.allocated fit.real fit.initialized fit.first
+      fit.last short even few multiple;
   is = record { text = runs; is = text; all = e };
-  one = subst IsOneAttribute (sym e) (one-text kind name id sizes runs small_kind small_id fit.allocated fit.real fit.initialized fit.first fit.last short even few multiple other);
+  one = subst IsOneAttribute (sym e)
+      (one-text kind name id sizes runs small_kind small_id fit.allocated fit.real fit.initialized fit.first fit.last short
+      even few multiple other);
   part = subst (λ b. IsPartBytes b kind name id (one_run sizes run)) (sym e)
-      (part-text kind name id sizes runs small_kind small_id fit.allocated fit.real fit.initialized fit.first fit.last short even few multiple run (run_text-means run runs some bounded reach text));
+      (part-text kind name id sizes runs small_kind small_id fit.allocated fit.real fit.initialized fit.first fit.last short even few
+      multiple run (run_text-means run runs some bounded reach text));
   aligned = subst (λ b. sizes.first ≡ 0 → value_offset b 0 % 8 ≡ 0) (sym e)
-      (aligned-text kind name id sizes runs small_kind small_id fit.allocated fit.real fit.initialized fit.first fit.last short even few multiple);
+      (aligned-text kind name id sizes runs small_kind small_id fit.allocated fit.real fit.initialized fit.first fit.last
+      short even few multiple);
 }
 
 -- what the text of a run is, from what was written

@@ -1,5 +1,6 @@
 -- A record that is made, attribute by attribute.
-use Rattle.std.proofs.Common.{◌≡◌, ℕ, ◌+◌, ◌*◌, ◌%◌, ◌^◌, ◌<◌, ◌==◌, true, List, [], ◌∷◌, ◌++◌, map, length, Some, None, refl, sym, ap, subst, ◌∙◌, arith, rules, length-append}
+use Rattle.std.proofs.Common.{◌≡◌, ℕ, ◌+◌, ◌*◌, ◌%◌, ◌^◌, ◌<◌, ◌==◌, true, List, [], ◌∷◌, ◌++◌, map, length, Some, None, refl, sym, ap}
+use Rattle.std.proofs.Common.{subst, ◌∙◌, arith, rules, length-append}
 use Rattle.std.specs.Prelude.{option_map, replicate}
 use Rattle.std.proofs.lemmas.Bool.Decides.{nat_tests}
 use Rattle.std.proofs.lemmas.List.{length-replicate, map-append, take_all, nil_from_length}
@@ -60,7 +61,8 @@ module _ (old new attr : List ℕ) (one : IsOneAttribute attr) (puts : Inserts o
   more : length (attributes new) ≡ length (attributes old) + 1
   more = ap length list ∙ length-append (attributes old) (attribute_at attr 0 ∷ [])
 
-  next : next_attribute_id old ≡ length (attributes old) → next_id_after (next_attribute_id old) (attribute_id attr 0) ≡ next_attribute_id old + 1
+  next : next_attribute_id old ≡ length (attributes old)
+      → next_id_after (next_attribute_id old) (attribute_id attr 0) ≡ next_attribute_id old + 1
   next counted =
       ap (next_id_after (next_attribute_id old)) (id-attr ∙ own) ∙ next-own (next_attribute_id old) (omega (arith, counted, few))
 
@@ -69,22 +71,26 @@ module _ (old new attr : List ℕ) (one : IsOneAttribute attr) (puts : Inserts o
       let low = (attribute_place-bounded old (length (attributes old)) (length (attributes old)) shape (omega arith)).low in
       let a = array_place-shape old shape.header in
       let b = array_place-shape new puts.shape.header in
-      ap (u16_at new) b ∙ u16_at-same old new 0x30 (λ k from to. puts.bytes.before k (omega arith) (omega (arith, low))) ∙ ap (u16_at old) (sym a)
+      ap (u16_at new) b ∙ u16_at-same old new 0x30 (λ k from to. puts.bytes.before k (omega arith) (omega (arith, low)))
+      ∙ ap (u16_at old) (sym a)
 
   header-more : next_attribute_id old ≡ length (attributes old) → header_of new ≡ with_next_id (header_of old) ((header_of old).next_id + 1)
   unfolding header_of
   header-more counted = puts.header ∙ ap (with_next_id (header_of old)) (next counted)
 
-  parts-more : (n : ℕ) → map (part_of n) (attributes new) ≡ map (part_of n) (attributes old) ++ part n kind name (header_of old).next_id content ∷ []
+  parts-more : (n : ℕ) → map (part_of n) (attributes new)
+      ≡ map (part_of n) (attributes old) ++ part n kind name (header_of old).next_id content ∷ []
   unfolding header_of
   parts-more n =
       ap (map (part_of n)) list ∙ map-append (part_of n) (attributes old) (attribute_at attr 0 ∷ [])
       ∙ ap (λ p. map (part_of n) (attributes old) ++ p ∷ []) (is n ∙ ap (λ i. part n kind name i content) own)
 
-  record-more : next_attribute_id old ≡ length (attributes old) → (n : ℕ) → record_of n new ≡ with_part n kind name content (record_of n old)
+  record-more : next_attribute_id old ≡ length (attributes old) → (n : ℕ)
+      → record_of n new ≡ with_part n kind name content (record_of n old)
   record-more counted n =
       ap (λ (h : Header). let r : Record = record { header = h; parts = map (part_of n) (attributes new) } in r) (header-more counted)
-      ∙ ap (λ (ps : List Part). let r : Record = record { header = with_next_id (header_of old) ((header_of old).next_id + 1); parts = ps } in r) (parts-more n)
+      ∙ ap (λ (ps : List Part). let r : Record =
+      record { header = with_next_id (header_of old) ((header_of old).next_id + 1); parts = ps } in r) (parts-more n)
 
   pub AddsPart-inserted : AddsPart old new kind name content
   AddsPart-inserted n planned was = record {
@@ -135,7 +141,8 @@ module _ (number sequence flags z : ℕ) (small_number : number < 256) (small : 
   means-blank =
       ap (λ (h : Header). let r : Record = record { header = h; parts = map (part_of number) (attributes blank) } in Some r)
       (headers_same made.header _ (omega arith) (omega arith) (omega arith) refl (omega arith) (omega arith))
-      ∙ ap (λ (all : List Attribute). let r : Record = record { header = made.header; parts = map (part_of number) all } in Some r) list-blank
+      ∙ ap (λ (all : List Attribute). let r : Record = record { header = made.header; parts = map (part_of number) all } in
+      Some r) list-blank
 
   new-blank : IsNewRecord number (Some made) blank
   new-blank = record {

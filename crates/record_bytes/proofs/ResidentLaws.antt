@@ -1,13 +1,16 @@
 -- The bytes of a resident attribute are the part that they were made of.
-use Rattle.std.proofs.Common.{◌≡◌, ◌≢◌, ℕ, ◌+◌, ◌*◌, ◌-◌, ◌/◌, ◌%◌, ◌^◌, ◌<◌, ◌≤◌, List, ◌++◌, take, drop, length, refl, sym, ap, subst, ◌∙◌, arith, length-append, append_assoc}
+use Rattle.std.proofs.Common.{◌≡◌, ◌≢◌, ℕ, ◌+◌, ◌*◌, ◌-◌, ◌/◌, ◌%◌, ◌^◌, ◌<◌, ◌≤◌, List, ◌++◌, take, drop, length, refl, sym, ap, subst}
+use Rattle.std.proofs.Common.{◌∙◌, arith, length-append, append_assoc}
 use Rattle.std.specs.Prelude.{replicate, slice_range}
 use Rattle.std.proofs.lemmas.List.{take_at, drop_at, drop-drop, length-replicate}
 use Rattle.ntfs_def.specs.declared.kinds.TheConstants.{END}
-use Rattle.ntfs_def.specs.Attribute.{attribute_at, attribute_kind, attribute_len, attribute_id, value_len, value_offset, name_bytes, content_bytes}
+use Rattle.ntfs_def.specs.Attribute.{attribute_at, attribute_kind, attribute_len, attribute_id, value_len}
+use Rattle.ntfs_def.specs.Attribute.{value_offset, name_bytes, content_bytes}
 use Rattle.ntfs_def.specs.Shape.{IsOneAttribute}
 use Rattle.volume_def.specs.Files.{Content, Part, Value}
 use Rattle.ntfs_def.specs.Rounded.{up_to_8}
-use Rattle.record_bytes.specs.AttributeBytes.{IsPartBytes, indexed_byte, padded_bytes, resident_bytes, resident_header, resident_len, value_at}
+use Rattle.record_bytes.specs.AttributeBytes.{IsPartBytes, indexed_byte, padded_bytes, resident_bytes}
+use Rattle.record_bytes.specs.AttributeBytes.{resident_header, resident_len, value_at}
 
 pub length-padded_bytes : (bytes : List ℕ) → length (padded_bytes bytes) ≡ up_to_8 (length bytes)
 length-padded_bytes bytes = simp (length-append, length-replicate) (omega arith)
@@ -44,8 +47,10 @@ module _ (kind : ℕ) (name : List ℕ) (id indexed : ℕ) (value : List ℕ) (s
 
   name-text : name_bytes text 0 ≡ name
   name-text =
-      ap (take (0 + (24 + 2 * (length name / 2)) - 24)) (append_assoc name (replicate (up_to_8 (length name) - length name) 0) (padded_bytes value))
-      ∙ take_at name (replicate (up_to_8 (length name) - length name) 0 ++ padded_bytes value) (0 + (24 + 2 * (length name / 2)) - 24) (omega arith)
+      ap (take (0 + (24 + 2 * (length name / 2)) - 24))
+      (append_assoc name (replicate (up_to_8 (length name) - length name) 0) (padded_bytes value))
+      ∙ take_at name (replicate (up_to_8 (length name) - length name) 0 ++ padded_bytes value)
+      (0 + (24 + 2 * (length name / 2)) - 24) (omega arith)
 
   at-value : drop (value_at name) text ≡ padded_bytes value
   at-value =

@@ -7,7 +7,8 @@ ghost use Rattle.ntfs_def.specs.Shape.{IsOneAttribute};
 ghost use Rattle.ntfs_def.specs.Runs.{EndsInReach};
 ghost use Rattle.ntfs_def.specs.Units.{wide};
 ghost use Rattle.volume_def.specs.Files.{Value};
-ghost use Rattle.record_bytes.specs.AttributeBytes.{FitFields, IsExtent, IsPartBytes, IsRunTextOf, extent_header, indexed_byte, one_run, padded_bytes, resident_bytes, resident_len, runs_at, fill_to_8};
+ghost use Rattle.record_bytes.specs.AttributeBytes.{FitFields, IsExtent, IsPartBytes, IsRunTextOf, extent_header, indexed_byte, one_run};
+ghost use Rattle.record_bytes.specs.AttributeBytes.{padded_bytes, resident_bytes, resident_len, runs_at, fill_to_8};
 ghost use Rattle.ntfs_def.specs.Rounded.{up_to_8};
 
 use data_runs::RunList;

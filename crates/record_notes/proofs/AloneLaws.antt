@@ -1,5 +1,6 @@
 -- Files without an attribute list that have more than one record, by the extension records that are noted.
-use Rattle.std.proofs.Common.{◌≡◌, ◌≢◌, ◌<◌, ◌+◌, ℕ, true, false, cond, List, [], ◌∷◌, Option, Some, None, IfSome, IsTrue, IsSomeAnd, length, take, get_or, refl, sym, ap, subst, inl, inr, ◌∙◌, arith}
+use Rattle.std.proofs.Common.{◌≡◌, ◌≢◌, ◌<◌, ◌+◌, ℕ, true, false, cond, List, [], ◌∷◌, Option, Some, None, IfSome, IsTrue, IsSomeAnd}
+use Rattle.std.proofs.Common.{length, take, get_or, refl, sym, ap, subst, inl, inr, ◌∙◌, arith}
 use Rattle.std.specs.Prelude.{All, not}
 use Rattle.std.specs.List.{Contains, list_any, range_with_len}
 use Rattle.std.proofs.lemmas.Bool.{and_parts, cases_Bool}
@@ -7,7 +8,8 @@ use Rattle.std.proofs.lemmas.List.{take_more}
 use Rattle.std.proofs.lemmas.List.Elements.{All-append, All-cons, All-contains, All-nil, Contains-append_left, Contains-append_right}
 use Rattle.volume_def.specs.Files.{Record, Records, file_of, is_base}
 use Rattle.volume_def.specs.ListsClause.{is_list}
-use Rattle.list_laws.proofs.MemberLaws.{All-from_Contains, Contains-flat_map, Contains-from_flat_map, Contains-head, Contains-nil, Contains-only, Contains-range}
+use Rattle.list_laws.proofs.MemberLaws.{All-from_Contains, Contains-flat_map, Contains-from_flat_map, Contains-head}
+use Rattle.list_laws.proofs.MemberLaws.{Contains-nil, Contains-only, Contains-range}
 use Rattle.record_notes.specs.declared.spread.Extension.{Extension}
 use Rattle.file_clauses.specs.Extents.{IsAlone}
 use Rattle.record_notes.specs.Heads.{EndsAtCount}
@@ -49,7 +51,8 @@ pub extension-noted : (records : Records) (n m : ℕ) (r : Record) → m < n →
     → Contains (extensions_below records n) (record { file = file_of m r; number = m })
 extension-noted records n m r lt at other =
     let one : Extension = record { file = file_of m r; number = m } in
-    Contains-flat_map (λ k. extension_in k (records.record_at k)) (range_with_len 0 n) m one (Contains-range 0 n m (omega arith) (omega arith))
+    Contains-flat_map (λ k. extension_in k (records.record_at k)) (range_with_len 0 n) m one
+    (Contains-range 0 n m (omega arith) (omega arith))
     (subst (λ o. Contains (extension_in m o) one) (sym at)
     (subst (λ b. Contains (cond b [] (one ∷ [])) one) (sym other) (Contains-head one [])))
 
@@ -65,7 +68,8 @@ abbrev pub MeetsOne : Records → ℕ → ℕ → Type 0
 MeetsOne records file n = IsUnlistedAt records n → file ≢ n
 
 -- one record more
-pub among-more : (records : Records) (extensions : List Extension) (i : ℕ) (d : Extension) (first found new : Option ℕ) → i < length extensions
+pub among-more : (records : Records) (extensions : List Extension) (i : ℕ) (d : Extension) (first found new : Option ℕ)
+    → i < length extensions
     → IsLeastFailing (MeetsAmong records (take i extensions)) first
     → IsLeastFailing (MeetsOne records (get_or extensions i d).file) found → new ≡ least_of first found
     → IsLeastFailing (MeetsAmong records (take (i + 1) extensions)) new
@@ -105,7 +109,8 @@ among-all records first ends least =
       | inl base ↦ sym (based-here k r.header.base base) ∙ file
       | inr other ↦
           let noted = extension-noted records records.count k r (inside-used records k r ends at) at other in
-          absurd (All-contains (λ (extension : Extension). extension.file ≢ n) (extensions_below records records.count) _ (among u) noted file)
+          absurd (All-contains (λ (extension : Extension). extension.file ≢ n)
+          (extensions_below records records.count) _ (among u) noted file)
     ])
 
     to : (n : ℕ) → MeetsAmong records (extensions_below records records.count) n → MeetsAlone records n
@@ -119,7 +124,8 @@ among-all records first ends least =
         All-from_Contains (λ (extension : Extension). extension.file ≢ n) (extensions_below records records.count) (λ extension c same.
         let held = extension-held records records.count extension c in
         let here : extension.number ≡ n =
-        subst (λ o. IfSome o (λ r. file_of extension.number r ≡ n → extension.number ≡ n)) held.at (alone extension.number) (sym held.file ∙ same) in
+        subst (λ o. IfSome o (λ r. file_of extension.number r ≡ n → extension.number ≡ n)) held.at (alone extension.number)
+        (sym held.file ∙ same) in
         let there : Some held.held ≡ Some w.0 = sym held.at ∙ ap (λ m. records.record_at m) here ∙ w.1 in
         let one : held.held ≡ w.0 = cc in
         let base : is_base held.held ≡ true = ap is_base one ∙ (and_parts (is_base w.0) (not (list_any is_list w.0.parts)) w.2).0 in

@@ -14,7 +14,8 @@ long-none records m low = absurd (omega arith)
 
 -- One record more.
 
-keeps-next : (records : Records) (n : ℕ) → ((m : ℕ) → m < n → KeepsLimits records m) → KeepsLimits records n → (m : ℕ) → m < n + 1 → KeepsLimits records m
+keeps-next : (records : Records) (n : ℕ) → ((m : ℕ) → m < n → KeepsLimits records m) → KeepsLimits records n → (m : ℕ)
+    → m < n + 1 → KeepsLimits records m
 keeps-next records n all here m lt = elim (cases_lt m n) [
   | inl low ↦ all m low
   | inr high ↦ let e : n ≡ m = omega arith in subst (KeepsLimits records) e here
@@ -49,7 +50,8 @@ long-next records n (Some f) (Some g) ((m, lt, there), below) here = elim (cases
       let e : g ≡ min f g = omega arith in
       subst (λ h. IsLeastLong records (n + 1) (Some h)) e (
         (n, omega arith, here),
-        below-next records g n (λ k inside. keeps-less records f g k (omega arith) (below k inside)) (keeps-own records g g n (omega arith) here),
+        below-next records g n (λ k inside. keeps-less records f g k (omega arith) (below k inside))
+            (keeps-own records g g n (omega arith) here),
       )
   | inr high ↦
       let e : f ≡ min f g = omega arith in

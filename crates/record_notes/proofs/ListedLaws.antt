@@ -1,5 +1,6 @@
 -- The base records with an attribute list, as they are noted: they rise, and are all.
-use Rattle.std.proofs.Common.{◌≡◌, ◌<◌, ◌+◌, ◌++◌, ◌&&◌, ℕ, zero, suc, Bool, true, cond, List, [], ◌∷◌, Option, Some, None, refl, sym, subst, inl, inr, arith}
+use Rattle.std.proofs.Common.{◌≡◌, ◌<◌, ◌+◌, ◌++◌, ◌&&◌, ℕ, zero, suc, Bool, true, cond, List, [], ◌∷◌, Option, Some, None, refl, sym}
+use Rattle.std.proofs.Common.{subst, inl, inr, arith}
 use Rattle.std.specs.Prelude.{All}
 use Rattle.std.specs.List.{AllPairs, Contains, list_any, range_with_len}
 use Rattle.std.proofs.lemmas.Bool.{cases_Bool}
@@ -8,7 +9,8 @@ use Rattle.std.proofs.lemmas.List.Elements.{All-append, All-cons, All-nil}
 use Rattle.std.proofs.lemmas.List.Quantifiers.{all_pairs_push}
 use Rattle.volume_def.specs.Files.{Record, Records, is_base}
 use Rattle.volume_def.specs.ListsClause.{is_list}
-use Rattle.list_laws.proofs.MemberLaws.{Contains-flat_map, Contains-from_flat_map, Contains-head, Contains-nil, Contains-only, Contains-range}
+use Rattle.list_laws.proofs.MemberLaws.{Contains-flat_map, Contains-from_flat_map, Contains-head}
+use Rattle.list_laws.proofs.MemberLaws.{Contains-nil, Contains-only, Contains-range}
 use Rattle.record_notes.specs.Spread.{listed_below, listed_in}
 use Rattle.list_laws.proofs.FlatMapLaws.{flat_map-range_more}
 
@@ -21,7 +23,8 @@ pub record IsListedBase (records : Records) (f : ℕ) : Type 0 where
   pub at : records.record_at f ≡ Some held
   pub lists : has_list held ≡ true
 
-listed-here : (records : Records) (n f : ℕ) (o : Option Record) → records.record_at n ≡ o → Contains (listed_in n o) f → IsListedBase records f
+listed-here : (records : Records) (n f : ℕ) (o : Option Record) → records.record_at n ≡ o
+    → Contains (listed_in n o) f → IsListedBase records f
 listed-here records n f None at c = absurd (Contains-nil f c)
 listed-here records n f (Some r) at c = elim (cases_Bool (has_list r)) [
   | inl t ↦

@@ -1,19 +1,22 @@
 -- The names that records hold, by their files and by their holders.
-use Rattle.std.proofs.Common.{◌≡◌, ℕ, zero, suc, ◌+◌, ◌-◌, ◌<◌, ◌==◌, true, false, cond, List, [], ◌∷◌, ◌++◌, map, length, Option, Some, None, inl, inr, refl, sym, ap, subst, ◌∙◌, arith, append_assoc}
+use Rattle.std.proofs.Common.{◌≡◌, ℕ, zero, suc, ◌+◌, ◌-◌, ◌<◌, ◌==◌, true, false, cond, List, [], ◌∷◌, ◌++◌, map, length, Option, Some}
+use Rattle.std.proofs.Common.{None, inl, inr, refl, sym, ap, subst, ◌∙◌, arith, append_assoc}
 use Rattle.std.specs.List.{All, Contains, flat_map, cons_option, filter, filter_map, range_with_len}
 use Rattle.std.specs.List.Sorted.{IsNonDecreasingBy}
 use Rattle.std.specs.Option.{option_map}
 use Rattle.std.specs.Prelude.{IfSome}
 use Rattle.std.proofs.lemmas.Bool.{cases_Bool, cases_lt, eq-eqb}
 use Rattle.std.proofs.lemmas.List.{append-nil, map-append, get_or_append_left, get_or-append_right, length-append}
-use Rattle.std.proofs.lemmas.List.Elements.{All-get_or, All-append, All-head, All-map, All-nil, All-tail, All-weaker, filter-append, filter_map-append}
+use Rattle.std.proofs.lemmas.List.Elements.{All-get_or, All-append, All-head, All-map, All-nil, All-tail}
+use Rattle.std.proofs.lemmas.List.Elements.{All-weaker, filter-append, filter_map-append}
 use Rattle.ntfs_def.specs.declared.kinds.TheConstants.{FILE_NAME}
 use Rattle.ntfs_def.specs.Attribute.{Attribute, Body, NonResident, Resident, attributes, value_of}
 use Rattle.ntfs_def.specs.FileName.{FileName, name_in}
 use Rattle.volume_def.specs.AttributesClause.{IsRightPart, IsRightRecord, MeetsAttributes}
 use Rattle.volume_def.specs.FileNames.{is_file_name, names_among, names_of}
 use Rattle.volume_def.specs.Files.{Part, Record, Records, content_of, content_value, file_of, part_of, parts, parts_in, record_of}
-use Rattle.list_laws.proofs.MemberLaws.{Contains-flat_map, Contains-from_flat_map, Contains-from_map, Contains-from_range, Contains-map, Contains-nil, Contains-range}
+use Rattle.list_laws.proofs.MemberLaws.{Contains-flat_map, Contains-from_flat_map, Contains-from_map, Contains-from_range}
+use Rattle.list_laws.proofs.MemberLaws.{Contains-map, Contains-nil, Contains-range}
 use Rattle.record_notes.specs.declared.names.Names.{Names}
 use Rattle.record_notes.specs.Names.{HeldName, NamesNote, PlacedName, held_name, is_of_file, names_held, names_held_below, placed}
 use Rattle.list_laws.proofs.FlatMapLaws.{flat_map-range_more}

@@ -1,5 +1,6 @@
 -- The count of owners grows: by clusters of the volume, and by clusters that it does not have.
-use Rattle.std.proofs.Common.{◌≡◌, ℕ, ◌+◌, ◌<◌, ◌≤◌, ◌&&◌, nat_lt, cond, min, IsTrue, List, Option, Some, None, inl, inr, refl, subst, ap, ◌∙◌, arith, le-ltb}
+use Rattle.std.proofs.Common.{◌≡◌, ℕ, ◌+◌, ◌<◌, ◌≤◌, ◌&&◌, nat_lt, cond, min, IsTrue, List, Option, Some, None, inl, inr, refl, subst, ap}
+use Rattle.std.proofs.Common.{◌∙◌, arith, le-ltb}
 use Rattle.std.specs.Option.{option_or}
 use Rattle.std.proofs.lemmas.Bool.{cases_lt, le-leb, lt-leb, lt-ltb}
 use Rattle.list_laws.specs.Bits.{bit_in}

@@ -1,5 +1,6 @@
 -- What one record more adds to the runs of the records below it, and what the runs of all records are.
-use Rattle.std.proofs.Common.{◌≡◌, ◌≢◌, ℕ, ◌+◌, ◌≤◌, ◌&&◌, ◌==◌, cond, List, [], ◌∷◌, ◌++◌, map, filter, Some, None, IsTrue, inl, inr, refl, sym, ap, subst, ◌∙◌}
+use Rattle.std.proofs.Common.{◌≡◌, ◌≢◌, ℕ, ◌+◌, ◌≤◌, ◌&&◌, ◌==◌, cond, List, [], ◌∷◌, ◌++◌, map, filter, Some, None, IsTrue, inl, inr, refl}
+use Rattle.std.proofs.Common.{sym, ap, subst, ◌∙◌}
 use Rattle.std.specs.Prelude.{◌↔◌, flat_map}
 use Rattle.std.specs.Str.{bytes_eq}
 use Rattle.std.proofs.lemmas.Bool.{cases_Bool}
@@ -15,7 +16,8 @@ use Rattle.volume_def.specs.Files.{Part, Records, file_of, is_of, part_of, part_
 use Rattle.volume_def.specs.OwnersClause.{all_runs, boot_runs, record_runs, times_owned}
 use Rattle.volume_def.proofs.RecordLaws.{parts_in-other, parts_in-own, parts_in-unused}
 use Rattle.record_notes.specs.declared.owners.Owners.{Owners}
-use Rattle.record_notes.specs.Owners.{OwnersNote, RunsNote, attribute_runs, boot_parts_below, boot_runs_below, runs_below, unnamed_data_runs}
+use Rattle.record_notes.specs.Owners.{OwnersNote, RunsNote, attribute_runs, boot_parts_below}
+use Rattle.record_notes.specs.Owners.{boot_runs_below, runs_below, unnamed_data_runs}
 use Rattle.list_laws.proofs.FlatMapLaws.{flat_map-range_more}
 
 pub runs_below-more : (records : Records) (n : ℕ) → runs_below records (n + 1) ≡ runs_below records n ++ record_runs (records.record_at n)

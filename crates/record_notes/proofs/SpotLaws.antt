@@ -1,5 +1,6 @@
 -- Where a cluster of a stream lies once one more part is known, and places that are noted.
-use Rattle.std.proofs.Common.{◌≡◌, ◌≢◌, ◌<◌, ◌≤◌, ◌+◌, ◌-◌, ℕ, true, cond, List, [], ◌∷◌, ◌++◌, length, set, Option, Some, None, inl, inr, refl, sym, ap, subst, ◌∙◌, arith}
+use Rattle.std.proofs.Common.{◌≡◌, ◌≢◌, ◌<◌, ◌≤◌, ◌+◌, ◌-◌, ℕ, true, cond, List, [], ◌∷◌, ◌++◌, length, set, Option, Some, None, inl, inr}
+use Rattle.std.proofs.Common.{refl, sym, ap, subst, ◌∙◌, arith}
 use Rattle.std.specs.Prelude.{find, slice_index}
 use Rattle.std.specs.Option.{option_map, option_or}
 use Rattle.std.proofs.lemmas.Bool.{and_from, and_left, and_parts, and_right, cases_eq, cases_lt, false≢true, le-leb, le-ltb, lt-leb, lt-ltb}
@@ -56,7 +57,8 @@ holds-below vcn part holds = elim (cases_lt vcn (first_vcn_of part.content + par
   | inr ge ↦ absurd (false≢true (sym (le-ltb _ _ ge) ∙ (and_parts _ _ holds).1))
 ]
 
-held-somewhere : (vcn : ℕ) (extents : List Part) (part : Part) → find (holds_vcn vcn) extents ≡ Some part → spot_by (Some part) vcn ≢ Outside
+held-somewhere : (vcn : ℕ) (extents : List Part) (part : Part) → find (holds_vcn vcn) extents ≡ Some part
+    → spot_by (Some part) vcn ≢ Outside
 held-somewhere vcn extents part found =
     let holds = (find-found (holds_vcn vcn) extents part found).1 in
     let from = holds-from vcn part holds in

@@ -22,7 +22,8 @@ pub SpreadNote-more : (records : Records) (n : ℕ) (found : Option Record) (old
     → SpreadNote records n old → SpreadNote records (n + 1) new
 SpreadNote-more records n found old new is extensions listed below = record {
   extensions = extensions ∙ ap (λ xs. xs ++ extension_in n found) below.extensions
-      ∙ sym (flat_map-range_more (λ k. extension_in k (records.record_at k)) n ∙ ap (λ o. extensions_below records n ++ extension_in n o) is);
+      ∙ sym (flat_map-range_more (λ k. extension_in k (records.record_at k)) n
+      ∙ ap (λ o. extensions_below records n ++ extension_in n o) is);
   listed = listed ∙ ap (λ xs. xs ++ listed_in n found) below.listed
       ∙ sym (flat_map-range_more (λ k. listed_in k (records.record_at k)) n ∙ ap (λ o. listed_below records n ++ listed_in n o) is);
 }
@@ -50,7 +51,8 @@ note-extension records n base block old new some header is added kept note =
     let r : Record = record_of n block in
     let names : r.header.base ≡ Some (reference_in base) = sym header ∙ base_in-some base some in
     let one : extension_in n (Some r) ≡ record { file = base % 2 ^ 48; number = n } ∷ [] =
-    ap (λ (o : Option Reference). cond (is_none o) [] (record { file = unwrap_or (option_map (λ b. b.number) o) n; number = n } ∷ [])) names in
+    ap (λ (o : Option Reference). cond (is_none o) [] (record { file = unwrap_or (option_map (λ b. b.number) o) n; number = n } ∷ []))
+    names in
     let none : listed_in n (Some r) ≡ [] =
     ap (λ (o : Option Reference). cond (is_none o && list_any is_list r.parts) (n ∷ []) []) names in
     SpreadNote-more records n (Some r) old new is
@@ -68,7 +70,8 @@ note-base records n base block old new has none header is lists kept added note 
     let r : Record = record_of n block in
     let names : r.header.base ≡ None = sym header ∙ base_in-none base none in
     let no : extension_in n (Some r) ≡ [] =
-    ap (λ (o : Option Reference). cond (is_none o) [] (record { file = unwrap_or (option_map (λ b. b.number) o) n; number = n } ∷ [])) names in
+    ap (λ (o : Option Reference). cond (is_none o) [] (record { file = unwrap_or (option_map (λ b. b.number) o) n; number = n } ∷ []))
+    names in
     let one : listed_in n (Some r) ≡ cond has (n ∷ []) [] =
     ap (λ (o : Option Reference). cond (is_none o && list_any is_list r.parts) (n ∷ []) []) names
     ∙ ap (λ b. cond b (n ∷ []) []) (list_any-map is_list (part_of n) (attributes block) ∙ sym lists) in

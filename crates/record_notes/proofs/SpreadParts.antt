@@ -1,5 +1,6 @@
 -- The parts of a file, by the extension records that are noted.
-use Rattle.std.proofs.Common.{◌≡◌, ◌≢◌, ◌<◌, ◌+◌, ◌==◌, ◌++◌, ℕ, zero, suc, Bool, true, cond, List, [], ◌∷◌, Option, Some, None, refl, sym, ap, subst, inl, inr, ◌∙◌, arith, append-nil}
+use Rattle.std.proofs.Common.{◌≡◌, ◌≢◌, ◌<◌, ◌+◌, ◌==◌, ◌++◌, ℕ, zero, suc, Bool, true, cond, List, [], ◌∷◌, Option, Some, None, refl, sym}
+use Rattle.std.proofs.Common.{ap, subst, inl, inr, ◌∙◌, arith, append-nil}
 use Rattle.std.specs.Prelude.{All, IsSomeAnd, nat_lt}
 use Rattle.std.specs.List.{Contains, count_by, flat_map, range_with_len}
 use Rattle.std.specs.List.Sorted.{IsPermutation}
@@ -91,7 +92,8 @@ module _ (records : Records) (f : ℕ) where
         ∙ ap (parts_from records f) (filter-append (λ (extension : Extension). extension.file == f) low last)
         ∙ flat_map-append (λ (extension : Extension). parts_in (records.record_at extension.number) extension.number f)
         (extensions_of f low) (extensions_of f last) in
-        let some = ap (count_by p) noted ∙ count-append p (parts_from records f (extensions_of f low)) (parts_from records f (extensions_of f last)) in
+        let some = ap (count_by p) noted
+        ∙ count-append p (parts_from records f (extensions_of f low)) (parts_from records f (extensions_of f last)) in
         let step = seen-more n in
         omega arith
 
@@ -124,7 +126,8 @@ from-moved records f xs ys moved = record {
   counts = λ p.
       let q : Extension → Bool = λ extension. extension.file == f in
       let g : Extension → List Part = λ extension. parts_in (records.record_at extension.number) extension.number f in
-      count-flat_map_filter p q g xs ∙ sym (sum_by-IsPermutation (λ x. cond (q x) (count_by p (g x)) 0) xs ys moved) ∙ sym (count-flat_map_filter p q g ys);
+      count-flat_map_filter p q g xs ∙ sym (sum_by-IsPermutation (λ x. cond (q x) (count_by p (g x)) 0) xs ys moved)
+      ∙ sym (count-flat_map_filter p q g ys);
 }
 
 -- Those of one file.
@@ -134,7 +137,8 @@ pub parts-own : (records : Records) (f : ℕ) (r : Record) (extensions : List Ex
 parts-own records f r extensions here base inside own =
     let noted = extensions_below records records.count in
     SameItems-trans (r.parts ++ parts_from records f extensions) (r.parts ++ parts_from records f (extensions_of f noted)) (parts records f)
-    (SameItems-append r.parts r.parts (parts_from records f extensions) (parts_from records f (extensions_of f noted)) (SameItems-same r.parts r.parts refl)
+    (SameItems-append r.parts r.parts (parts_from records f extensions) (parts_from records f (extensions_of f noted))
+    (SameItems-same r.parts r.parts refl)
     (subst (λ xs. SameItems (parts_from records f xs) (parts_from records f (extensions_of f noted))) (sym own.own)
     (from-moved records f noted own.all own.order)))
     (parts-spread records f r here base inside)

@@ -1,5 +1,6 @@
 -- What one part, and one record, more adds to what is noted of a stream.
-use Rattle.std.proofs.Common.{◌≡◌, ◌<◌, ◌≤◌, ◌+◌, ◌-◌, ◌^◌, ℕ, Bool, true, false, cond, All, List, [], ◌∷◌, ◌++◌, length, map, min, Option, Some, None, inl, inr, refl, sym, ap, subst, ◌∙◌, arith}
+use Rattle.std.proofs.Common.{◌≡◌, ◌<◌, ◌≤◌, ◌+◌, ◌-◌, ◌^◌, ℕ, Bool, true, false, cond, All, List, [], ◌∷◌, ◌++◌, length, map, min, Option}
+use Rattle.std.proofs.Common.{Some, None, inl, inr, refl, sym, ap, subst, ◌∙◌, arith}
 use Rattle.std.specs.Prelude.{◌↔◌, ◌==◌, IsSome, IsTrue, filter, IfSome, IsSomeAnd, is_some, not, unwrap_or}
 use Rattle.std.specs.Option.{option_map, option_or}
 use Rattle.std.proofs.lemmas.Bool.{cases_lt}
@@ -14,7 +15,8 @@ use Rattle.ntfs_def.specs.Attribute.{Attribute, Body, ExtentHeader, NonResident,
 use Rattle.ntfs_def.specs.Flags.{is_packed}
 use Rattle.ntfs_def.specs.Runs.{runs_in, spot_of, total_clusters}
 use Rattle.ntfs_def.proofs.SpotLaws.{spot_of-none}
-use Rattle.volume_def.specs.Files.{Part, Records, content_extent, content_of, content_runs, content_value, file_of, is_of, part_clusters, part_of, part_runs, parts, parts_in, record_of}
+use Rattle.volume_def.specs.Files.{Part, Records, content_extent, content_of, content_runs, content_value, file_of, is_of, part_clusters}
+use Rattle.volume_def.specs.Files.{part_of, part_runs, parts, parts_in, record_of}
 use Rattle.volume_def.specs.Values.{IsPlain, first_part, first_vcn_of, is_first, spot_at}
 use Rattle.volume_def.proofs.RecordLaws.{parts_in-unused}
 use Rattle.record_notes.specs.declared.streams.FirstPart.{FirstPart}
@@ -22,7 +24,8 @@ use Rattle.record_notes.specs.declared.streams.Placement.{Placement}
 use Rattle.record_notes.specs.declared.streams.StreamNote.{StreamNote}
 use Rattle.record_notes.specs.declared.streams.Streams.{Streams}
 use Rattle.record_notes.specs.Skips.{first_spot, noted_at}
-use Rattle.record_notes.specs.Streams.{NotesStream, StreamsNote, TellsPlaces, TellsSizes, TellsSizesIn, parts_below, places_in, spot_noted, stream_below, unnamed_parts}
+use Rattle.record_notes.specs.Streams.{NotesStream, StreamsNote, TellsPlaces, TellsSizes, TellsSizesIn, parts_below, places_in}
+use Rattle.record_notes.specs.Streams.{spot_noted, stream_below, unnamed_parts}
 use Rattle.list_laws.proofs.FlatMapLaws.{flat_map-range_more}
 use Rattle.list_laws.proofs.FindLaws.{find-more}
 use Rattle.record_notes.proofs.SpotLaws.{first-outside, spot_at-before, spot_at-more, spot_at-only}
@@ -31,7 +34,8 @@ use Rattle.list_laws.proofs.OptionLaws.{option_or-none}
 
 -- The part that tells the sizes.
 
-first-more : (extents : List Part) (part : Part) → first_part (extents ++ part ∷ []) ≡ option_or (first_part extents) (first_part (part ∷ []))
+first-more : (extents : List Part) (part : Part)
+    → first_part (extents ++ part ∷ []) ≡ option_or (first_part extents) (first_part (part ∷ []))
 first-more extents part = find-more is_first extents part
 
 -- it was told already
@@ -121,11 +125,13 @@ TellsPlaces-more xs part old new placed extents covered tells =
     let Extent : Part → Type 0 = λ p. IsSome (content_extent p.content) in
     record {
       placed = (
-        λ t. let (before, here) = placed.0 t in All-append Placed xs (part ∷ []) (tells.placed.0 before) (All-cons Placed part [] here (All-nil Placed)),
+        λ t. let (before, here) = placed.0 t in
+            All-append Placed xs (part ∷ []) (tells.placed.0 before) (All-cons Placed part [] here (All-nil Placed)),
         λ all. let (before, here) = all-left Placed xs part all in placed.1 (tells.placed.1 before, here),
       );
       in_clusters = (
-        λ t. let (before, here) = extents.0 t in All-append Extent xs (part ∷ []) (tells.in_clusters.0 before) (All-cons Extent part [] here (All-nil Extent)),
+        λ t. let (before, here) = extents.0 t in
+            All-append Extent xs (part ∷ []) (tells.in_clusters.0 before) (All-cons Extent part [] here (All-nil Extent)),
         λ all. let (before, here) = all-left Extent xs part all in extents.1 (tells.in_clusters.1 before, here),
       );
       covered =
@@ -136,7 +142,8 @@ TellsPlaces-more xs part old new placed extents covered tells =
 
 -- What a part is, by its attribute.
 
-resident-extent : (body : Body) → run_text_of body ≡ None → (content_extent (content_of body) ≡ None) × (content_runs (content_of body) ≡ None)
+resident-extent : (body : Body) → run_text_of body ≡ None
+    → (content_extent (content_of body) ≡ None) × (content_runs (content_of body) ≡ None)
 resident-extent (Resident value) e = (refl, refl)
 resident-extent (NonResident extent text) e = cc
 
@@ -287,7 +294,8 @@ unnamed-cons kind n a rest = filter-append (is_of kind []) (part_of n a ∷ []) 
 
 -- Records one by one.
 
-parts_below-more : (records : Records) (f n : ℕ) → parts_below records f (n + 1) ≡ parts_below records f n ++ parts_in (records.record_at n) n f
+parts_below-more : (records : Records) (f n : ℕ)
+    → parts_below records f (n + 1) ≡ parts_below records f n ++ parts_in (records.record_at n) n f
 unfolding parts_below
 parts_below-more records f n = flat_map-range_more (λ m. parts_in (records.record_at m) m f) n
 
@@ -302,7 +310,8 @@ unfolding parts_below
 stream_below-none records f kind = refl
 
 -- those that all records hold are those of the file
-pub stream_below-all : (records : Records) (f kind : ℕ) → stream_below records f kind records.count ≡ filter (is_of kind []) (parts records f)
+pub stream_below-all : (records : Records) (f kind : ℕ)
+    → stream_below records f kind records.count ≡ filter (is_of kind []) (parts records f)
 unfolding parts_below parts
 stream_below-all records f kind = refl
 
@@ -343,7 +352,8 @@ stream_below-unused records f kind n is =
 pub StreamsNote-unused : (records : Records) (n : ℕ) (streams : Streams) → records.record_at n ≡ None → StreamsNote records n streams
     → StreamsNote records (n + 1) streams
 StreamsNote-unused records n streams is notes = record {
-  cluster_bits = subst (λ ps. NotesStream ps streams.cluster_bits) (sym (stream_below-unused records CLUSTER_BITMAP DATA n is)) notes.cluster_bits;
+  cluster_bits = subst (λ ps. NotesStream ps streams.cluster_bits)
+      (sym (stream_below-unused records CLUSTER_BITMAP DATA n is)) notes.cluster_bits;
   record_bits = subst (λ ps. NotesStream ps streams.record_bits) (sym (stream_below-unused records MFT BITMAP n is)) notes.record_bits;
   case_table = subst (λ ps. NotesStream ps streams.case_table) (sym (stream_below-unused records UPCASE DATA n is)) notes.case_table;
 }

@@ -1,5 +1,6 @@
 -- Files that stand in one record, and the others: what is found of both is found of all.
-use Rattle.std.proofs.Common.{◌≡◌, ◌≢◌, ◌↔◌, ◌<◌, ◌+◌, ◌==◌, ◌&&◌, ℕ, Bool, true, false, List, Option, Some, None, IfSome, IsTrue, IsFalse, refl, sym, ap, subst, inl, inr, ◌∙◌, arith}
+use Rattle.std.proofs.Common.{◌≡◌, ◌≢◌, ◌↔◌, ◌<◌, ◌+◌, ◌==◌, ◌&&◌, ℕ, Bool, true, false, List, Option, Some, None, IfSome, IsTrue, IsFalse}
+use Rattle.std.proofs.Common.{refl, sym, ap, subst, inl, inr, ◌∙◌, arith}
 use Rattle.std.specs.Prelude.{All, not, unwrap_or}
 use Rattle.std.specs.List.{Contains, count_by, list_any}
 use Rattle.std.proofs.lemmas.Bool.{and_from, and_parts, cases_Bool, cases_lt, not-true}
@@ -17,7 +18,8 @@ use Rattle.record_notes.specs.declared.unlisted.UnlistedFiles.{UnlistedFiles}
 use Rattle.file_clauses.specs.Extents.{AreWholeParts, IsAlone}
 use Rattle.record_notes.specs.Heads.{EndsAtCount}
 use Rattle.list_laws.specs.Least.{IsLeastBelow, IsLeastFailing, least_of}
-use Rattle.record_notes.specs.Unlisted.{AreUnlistedAlone, IsUnlistedWhole, MeetsListed, MeetsUnlisted, UnlistedNote, bytes_noted, is_unlisted}
+use Rattle.record_notes.specs.Unlisted.{AreUnlistedAlone, IsUnlistedWhole, MeetsListed, MeetsUnlisted}
+use Rattle.record_notes.specs.Unlisted.{UnlistedNote, bytes_noted, is_unlisted}
 use Rattle.file_clauses.proofs.AttributesLaws.{is_base-zero}
 use Rattle.record_notes.proofs.HeadLaws.{EndsAtCount-view}
 use Rattle.file_clauses.proofs.InOrderLaws.{alone-parts}

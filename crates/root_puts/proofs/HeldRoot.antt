@@ -1,6 +1,6 @@
 -- THE RECORD THAT HOLDS A ROOT, and what is read of it.
-use Rattle.std.proofs.Common.{◌≡◌, ◌+◌, ◌-◌, ◌<◌, ◌≤◌, ℕ, false, zero, suc, max, List, [], ◌∷◌, get_or, length, take, Option, Some, None, Ok, Err}
-use Rattle.std.proofs.Common.{refl, sym, ap, subst, ◌∙◌, arith, inl, inr}
+use Rattle.std.proofs.Common.{◌≡◌, ◌+◌, ◌-◌, ◌<◌, ◌≤◌, ℕ, false, zero, suc, max, List, [], ◌∷◌, get_or, length, take, Option, Some, None}
+use Rattle.std.proofs.Common.{Ok, Err, refl, sym, ap, subst, ◌∙◌, arith, inl, inr}
 use Rattle.std.specs.List.{flat_map}
 use Rattle.std.specs.Prelude.{◌⊎◌, Contains, IfNone, IfSome, IsSomeAnd, IsTrue, OnErr, OnOk, Result, slice_get}
 use Rattle.std.proofs.lemmas.List.Elements.{All-contains}
@@ -132,7 +132,8 @@ module _ (file : FileParts) (k left i : ℕ) (inside : k < length (held_of file)
 
     pub room-to-put : RecordHeld file k (λ held. HasRoomToPut held.block left 0 (length grown))
     room-to-put = to-held file k one one-is (λ held. HasRoomToPut held.block left 0 (length grown))
-        (subst (λ (o : Option (List ℕ)). IsSomeAnd o (λ value. used_size one.block + len_with one.block left (max (0 + length grown) (length value))
+        (subst (λ (o : Option (List ℕ)).
+        IsSomeAnd o (λ value. used_size one.block + len_with one.block left (max (0 + length grown) (length value))
         ≤ 1024 + attribute_len one.block (attribute_place one.block left))) (sym grows.is)
         (subst (λ n. used_size one.block + len_with one.block left (max (0 + n) (length grows.root))
         ≤ 1024 + attribute_len one.block (attribute_place one.block left)) (sym grows.has.grows.long)
@@ -165,7 +166,8 @@ either : {T E A B : Type 0} (result : Result T E) → OnOk result A → OnErr re
 either (Ok x) ok err = inl ok
 either (Err e) ok err = inr err
 
-pub disk-kept : {D T E : Type 0} (g : Ghosts D) (a b : Mft D g) (file : FileParts) (k : ℕ) (held : Held) → slice_get (held_of file) k ≡ Some held
+pub disk-kept : {D T E : Type 0} (g : Ghosts D) (a b : Mft D g) (file : FileParts) (k : ℕ) (held : Held)
+    → slice_get (held_of file) k ≡ Some held
     → (result : Result T E) → is_mft_broken g a ≡ false
     → OnOk result (RecordHeld file k (λ held. MftStages g (record_places (view g a).layout held.number) 4 a b))
     → OnErr result (MftReserves g a b) → KeepsDisk g a b

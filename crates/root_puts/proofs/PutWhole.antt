@@ -1,6 +1,6 @@
 -- WHAT THE CALL PROMISES that put an entry into the root of a directory that is held, from what was done in its record.
-use Rattle.std.proofs.Common.{◌≡◌, ◌+◌, ◌*◌, ◌<◌, ◌≤◌, ◌&&◌, not, ℕ, Bool, true, false, List, filter, get_or, length, take, Option, Some, None}
-use Rattle.std.proofs.Common.{refl, sym, ap, subst, ◌∙◌, arith}
+use Rattle.std.proofs.Common.{◌≡◌, ◌+◌, ◌*◌, ◌<◌, ◌≤◌, ◌&&◌, not, ℕ, Bool, true, false, List, filter, get_or, length, take, Option, Some}
+use Rattle.std.proofs.Common.{None, refl, sym, ap, subst, ◌∙◌, arith}
 use Rattle.std.specs.List.{flat_map}
 use Rattle.std.specs.Option.{option_and_then, option_map_or}
 use Rattle.std.specs.Prelude.{IsTrue, is_some, nat_le, slice_get}
@@ -132,7 +132,8 @@ module _ (old : VolumeView) (file : FileParts) (table entry : List ℕ) (marks :
         let root_is : root_of old (directory_index dir) ≡ Some h.index.root_node =
         root-value (short_node Names) (names_of_directory old dir).root h.index.root h.index.is_root ∙ h.index.says in
         no-last h.index.root_node.last
-        (sym (ap (λ o. option_map_or (λ (said : Node). not (is_some said.last)) o false) root_is) ∙ (room-parts old dir (length entry) room).0)
+        (sym (ap (λ o. option_map_or (λ (said : Node). not (is_some said.last)) o false) root_is)
+        ∙ (room-parts old dir (length entry) room).0)
 
     free : length entry + used_size one.block ≤ 1024
     free =

@@ -1,5 +1,5 @@
--- A ROOT WAS WRITTEN as a call on the record of its directory, and what it leaves of parts, of the table of case, and of what stands between
--- calls.
+-- A ROOT WAS WRITTEN as a call on the record of its directory, and what it leaves of parts, of the table of case, and of what stands
+-- between calls.
 use Rattle.std.proofs.Common.{◌≡◌, ◌≢◌, ◌+◌, ◌<◌, ◌≤◌, ◌==◌, ◌%◌, ◌&&◌, ◌++◌, ℕ, zero, suc, Bool, true, false, cond}
 use Rattle.std.proofs.Common.{List, [], ◌∷◌, length, max, drop, take, filter, map, Option, Some}
 use Rattle.std.proofs.Common.{refl, sym, ap, subst, ◌∙◌, arith, inl, inr}
@@ -212,7 +212,8 @@ module _ {change : List ℕ → List ℕ} (old new : VolumeView) (dir i : ℕ) (
   root-was =
       let was : part old dir dir i before root ≡ part_of dir e.was = ap (part_of dir) same in
       let there = subst (λ (p : Part). Contains (parts (records_of old) dir) p) was (its old dir dir i before root).0 in
-      let all = value-alone old dir (part_of dir e.was) (ready.editable.readable.extents dir) (is-file old dir dir i before root marks ready one) there
+      let all = value-alone old dir (part_of dir e.was) (ready.editable.readable.extents dir)
+      (is-file old dir dir i before root marks ready one) there
       (value-content dir e.was was-is) (λ z. let k = was-name.0 in omega (arith, z, k)) in
       ap (λ k. parts_at old dir k names) (sym was-name.0) ∙ ap (parts_at old dir e.was.kind) (sym was-name.1) ∙ all
 

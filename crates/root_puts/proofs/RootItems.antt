@@ -7,7 +7,8 @@ use Rattle.vol_bytes.specs.Field.{u32_at}
 use Rattle.vol_bytes.proofs.FieldLaws.{u32_at-same}
 use Rattle.ntfs_def.specs.FileName.{is_name_key}
 use Rattle.ntfs_def.specs.IndexRoot.{index_record_len, key_collation}
-use Rattle.ntfs_def.specs.IndexTree.{Ascends, Branch, Each, Spread, Tree, Walks, branch_times, node_of, spread_items, spread_times, times_in}
+use Rattle.ntfs_def.specs.IndexTree.{Ascends, Branch, Each, Spread, Tree, Walks, branch_times, node_of}
+use Rattle.ntfs_def.specs.IndexTree.{spread_items, spread_times, times_in}
 use Rattle.ntfs_def.specs.KeyOrder.{name_order}
 use Rattle.ntfs_def.specs.Node.{Entry, Item, Node, is_one_entry, item_in, short_node}
 use Rattle.ntfs_def.specs.declared.index.NodeForm.TheVariants.{Names}
@@ -97,9 +98,11 @@ module _ (old new : VolumeView) (dir i : ℕ) (before after : List ℕ) (root : 
     pub last : has.root_node.last ≡ None
     last = leaf has.root_node says
 
-    abbrev pub put : PutUnder (name_order (volume_fold old)) is_name_key (index_nodes Names old (names_of_directory old dir)) has.walks.depth
+    abbrev pub put : PutUnder (name_order (volume_fold old)) is_name_key
+        (index_nodes Names old (names_of_directory old dir)) has.walks.depth
         has.walks.s item (with_entry_at has.root_node grown.i (record { item = item; child = None }))
-    put = put_in_root (name_order (volume_fold old)) is_name_key (names-ordered old) (index_nodes Names old (names_of_directory old dir)) item
+    put = put_in_root (name_order (volume_fold old)) is_name_key (names-ordered old)
+        (index_nodes Names old (names_of_directory old dir)) item
         key has.walks.depth has.walks.s has.root_node (in-order old dir was h)
         (subst (IsAbsent (name_order (volume_fold old)) item.key) has.walks.is absent) last grown.i grown.place.hit
         (grown.place.found has.root_node (short_in Names before has.root_node says))
@@ -142,7 +145,8 @@ module _ (old new : VolumeView) (dir i : ℕ) (before after : List ℕ) (root : 
           extent.sizes.initialized ≡ extent.sizes.real))) (sym records-same) has.written;
       root_node = node';
       says = says-now;
-      walks = walks_moved (index_nodes Names old (names_of_directory old dir)) (index_nodes Names new (names_of_directory new dir)) node' now
+      walks = walks_moved (index_nodes Names old (names_of_directory old dir))
+          (index_nodes Names new (names_of_directory new dir)) node' now
           walk (λ vcn met. absurd (never vcn met));
       each = λ vcn met. absurd (never vcn met);
       keys = all-of (λ (x : Item). IsTrue (is_name_key x.key)) now put.index.keys;

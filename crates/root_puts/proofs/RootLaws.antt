@@ -1,6 +1,6 @@
 -- THE VOLUME where an item was put into the root of the index of a directory.
-use Rattle.std.proofs.Common.{◌≡◌, ◌≢◌, ◌+◌, ◌*◌, ◌≤◌, ◌==◌, ◌&&◌, ℕ, suc, Bool, true, false, cond, List, [], ◌∷◌, filter, Option, Some, slice_range}
-use Rattle.std.proofs.Common.{refl, sym, ap, subst, ◌∙◌, arith, inl, inr, true≢false}
+use Rattle.std.proofs.Common.{◌≡◌, ◌≢◌, ◌+◌, ◌*◌, ◌≤◌, ◌==◌, ◌&&◌, ℕ, suc, Bool, true, false, cond, List, [], ◌∷◌, filter, Option, Some}
+use Rattle.std.proofs.Common.{slice_range, refl, sym, ap, subst, ◌∙◌, arith, inl, inr, true≢false}
 use Rattle.std.specs.List.{Contains, find}
 use Rattle.std.specs.Option.{option_and_then, option_map_or}
 use Rattle.std.specs.Prelude.{◌↔◌, IsSome, is_some, unwrap_or}
@@ -185,7 +185,8 @@ module _ (old new : VolumeView) (marks : Marks) (dir : ℕ) (item : Item) (all :
   pub entry : ((was : List Item) → HasItems old dir was → IsAbsent (name_order (volume_fold old)) item.key was)
       → ChangesIndex nothing old new marks marks dir [] (item ∷ [])
   entry absent = record {
-    edited = Edited-more (same_key (root_key dir)) (is_index_key_of dir) nothing nothing old new marks marks index-free (within-same nothing)
+    edited = Edited-more (same_key (root_key dir))
+        (is_index_key_of dir) nothing nothing old new marks marks index-free (within-same nothing)
         edited;
     names_kept = names-kept;
     entry = λ was has. items-changed old new dir item puts was has (absent was has) was has;
@@ -225,7 +226,8 @@ module _ (old new : VolumeView) (marks : Marks) (dir : ℕ) (item : Item) (all :
 
     same-root : root_of new other ≡ root_of old other
     same-root =
-        ap (λ (ps : List Part). option_and_then (λ part. option_and_then (short_node other.form) (content_value part.content)) (first_part ps))
+        ap (λ (ps : List Part). option_and_then (λ part. option_and_then (short_node other.form) (content_value part.content))
+        (first_part ps))
         (parts-same other.file INDEX_ROOT other.name root-free)
 
     same-nodes : other_nodes new other ≡ other_nodes old other
@@ -240,8 +242,10 @@ module _ (old new : VolumeView) (marks : Marks) (dir : ℕ) (item : Item) (all :
     pub same-depth : index_depth new other ≡ index_depth old other
     unfolding index_depth
     same-depth =
-        ap (λ (root : Option Node). option_map_or (λ (root : Node). suc (levels_below most_depth (other_nodes new other) root.last)) root 0) same-root
-        ∙ ap (λ (nodes : Nodes). option_map_or (λ (root : Node). suc (levels_below most_depth nodes root.last)) (root_of old other) 0) same-nodes
+        ap (λ (root : Option Node). option_map_or (λ (root : Node). suc (levels_below most_depth (other_nodes new other) root.last)) root 0)
+        same-root
+        ∙ ap (λ (nodes : Nodes). option_map_or (λ (root : Node). suc (levels_below most_depth nodes root.last)) (root_of old other) 0)
+        same-nodes
 
   -- EACH CLAUSE but that on indexes
   owned-same : (c : ℕ) → times_owned (records_of new) c ≡ times_owned (records_of old) c
@@ -262,7 +266,8 @@ module _ (old new : VolumeView) (marks : Marks) (dir : ℕ) (item : Item) (all :
         bit = λ lt.
             let was = (holds n).bit (omega (arith, lt, count)) in
             subst (λ t. (bit_in (value_on new (cluster_bits new)) n ≡ 1) ↔ (1 ≤ t)) (sym (owned-same n))
-            (subst (λ value. (bit_in value n ≡ 1) ↔ (1 ≤ times_owned (records_of old) n)) (sym (values-same CLUSTER_BITMAP DATA [] refl refl)) was);
+            (subst (λ value. (bit_in value n ≡ 1) ↔ (1 ≤ times_owned (records_of old) n))
+            (sym (values-same CLUSTER_BITMAP DATA [] refl refl)) was);
       }
 
   record-bits : Holds old clauses.RecordBits → Holds new clauses.RecordBits
@@ -279,7 +284,8 @@ module _ (old new : VolumeView) (marks : Marks) (dir : ℕ) (item : Item) (all :
   references : Holds old clauses.References → Holds new clauses.References
   references holds = references-kept old new holds ready-now.bases names-kept
 
-  pub beside : (clause : Clause) → rank_of clause ≢ rank_of clauses.Indexes → Holds old clauses.References → Holds old clause → Holds new clause
+  pub beside : (clause : Clause) → rank_of clause ≢ rank_of clauses.Indexes → Holds old clauses.References
+      → Holds old clause → Holds new clause
   beside clauses.Shape other refers holds = ready-now.editable.readable.shape
   beside clauses.Attributes other refers holds = ready-now.editable.readable.attributes
   beside clauses.Lists other refers holds = ready-now.editable.readable.lists
@@ -291,7 +297,8 @@ module _ (old new : VolumeView) (marks : Marks) (dir : ℕ) (item : Item) (all :
   beside clauses.Links other refers holds =
       links-same old new refers holds (stand-of (records_of new) (references refers)) names-kept
   beside clauses.CaseTable other refers holds = λ n is.
-      case-kept (either is_room_key (same_key (root_key dir))) old new edited.kept size ready.bases ready.editable.readable refl (holds n is)
+      case-kept (either is_room_key (same_key (root_key dir)))
+      old new edited.kept size ready.bases ready.editable.readable refl (holds n is)
   beside clauses.Indexes other refers holds = absurd (other refl)
   beside clauses.Version other refers holds = ready-now.editable.version
   beside clauses.MirrorPlace other refers holds = ready-now.editable.mirror_place

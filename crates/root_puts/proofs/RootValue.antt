@@ -1,5 +1,6 @@
 -- THE VALUE OF AN ATTRIBUTE in its record: how long it is, and that it has room for bytes in eights, of which as many are free.
-use Rattle.std.proofs.Common.{◌≡◌, ◌+◌, ◌<◌, ◌≤◌, ◌%◌, ℕ, Bool, true, false, cond, List, Option, Some, length, max, refl, sym, ap, subst, inl, inr, ◌∙◌, arith}
+use Rattle.std.proofs.Common.{◌≡◌, ◌+◌, ◌<◌, ◌≤◌, ◌%◌, ℕ, Bool, true, false, cond, List, Option, Some, length, max, refl, sym, ap, subst}
+use Rattle.std.proofs.Common.{inl, inr, ◌∙◌, arith}
 use Rattle.std.specs.Prelude.{IsSomeAnd, slice_range}
 use Rattle.std.proofs.lemmas.Bool.{and_parts, cases_lt, eqb-true}
 use Rattle.std.specs.Prelude.{IsTrue, ◌==◌}
@@ -98,7 +99,8 @@ module _ (block : List ℕ) (count i : ℕ) (shape : HasShape block count) (lt :
   short = let below = there.below_used in omega (arith, as-long, inside, below, used)
 
   pub fits : (more : ℕ) → more % 8 ≡ 0 → more + used_size block ≤ 1024
-      → used_size block + len_with block i (max (0 + (length value + more)) (length value)) ≤ 1024 + attribute_len block (attribute_place block i)
+      → used_size block + len_with block i (max (0 + (length value + more)) (length value))
+      ≤ 1024 + attribute_len block (attribute_place block i)
   fits more eights room =
       let most : max (0 + (length value + more)) (length value) ≡ had + more = omega (arith, as-long) in
       let whole = there.whole.aligned in

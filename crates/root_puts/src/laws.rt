@@ -43,9 +43,9 @@ pub fn root_items()
 
 /// It is a call that names that root, and costs nothing (`edited`), and leaves what the next one needs (`ready`): no cluster has two owners
 /// (`owners`). The record of the directory alone was written (`writes`), and has its header (`holder`). All other attributes have the parts
-/// that they had (`parts`), also in their order by types (`kinds`), and the values, but the table and its mirror (`values`); the root has no
-/// run (`runs`), and its header still (`root`), all files their numbers and names (`names`), attributes their headers (`forms`), and names
-/// are compared as before (`case`).
+/// that they had (`parts`), also in their order by types (`kinds`), and the values, but the table and its mirror (`values`); the root has
+/// no run (`runs`), and its header still (`root`), all files their numbers and names (`names`), attributes their headers (`forms`), and
+/// names are compared as before (`case`).
 pub fn root_edited()
     ensures edited { (old new : VolumeView) (marks : Marks) (dir : ℕ) (item : Item) → PutsInRoot old new marks dir item
         → Edited (same_key (root_key dir)) nothing old new marks marks }

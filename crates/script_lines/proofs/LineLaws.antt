@@ -1,5 +1,6 @@
 -- What came of asking for a line.
-use Rattle.std.proofs.Common.{◌≡◌, ◌≢◌, ℕ, ◌<◌, List, [], ◌∷◌, ◌++◌, length, Option, Some, true, false, refl, sym, ap, ◌∙◌, append_assoc, append-nil, arith}
+use Rattle.std.proofs.Common.{◌≡◌, ◌≢◌, ℕ, ◌<◌, List, [], ◌∷◌, ◌++◌, length, Option, Some, true, false, refl, sym, ap, ◌∙◌}
+use Rattle.std.proofs.Common.{append_assoc, append-nil, arith}
 use Rattle.script_lines.specs.declared.reader.LineReader.{LineReader}
 use Rattle.script_lines.specs.declared.reader.Next.TheVariants as next
 use Rattle.script_lines.specs.declared.reader.Byte.TheVariants as byte

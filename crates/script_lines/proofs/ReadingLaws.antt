@@ -1,5 +1,6 @@
 -- How far a text was read, line by line.
-use Rattle.std.proofs.Common.{◌≡◌, ◌+◌, ◌≤◌, ◌^◌, ℕ, List, [], ◌∷◌, ◌++◌, length, take, drop, Option, Some, Bool, true, false, refl, sym, ap, ◌∙◌, subst, append_assoc, append-nil, length-append, arith, slice_range}
+use Rattle.std.proofs.Common.{◌≡◌, ◌+◌, ◌≤◌, ◌^◌, ℕ, List, [], ◌∷◌, ◌++◌, length, take, drop, Option, Some, Bool, true, false, refl, sym}
+use Rattle.std.proofs.Common.{ap, ◌∙◌, subst, append_assoc, append-nil, length-append, arith, slice_range}
 use Rattle.std.proofs.lemmas.List.{drop_at, take_at}
 use Rattle.std.proofs.lemmas.List.Elements.{filter-append}
 use Rattle.vol_disk.specs.Contents.{map_told}
@@ -8,7 +9,8 @@ use Rattle.script_lines.specs.declared.reader.LineReader.{LineReader}
 use Rattle.script_lines.specs.declared.reader.Next.{Next}
 use Rattle.script_lines.specs.declared.reader.Next.TheVariants as next
 use Rattle.script_lines.specs.Coming.{NextLine, TookLine, TookPart, coming}
-use Rattle.script_lines.specs.Reading.{AreAllLines, AreEndedLines, AreFirstLines, AreMostLines, EndsLine, HasRead, HasTaken, IsFresh, OneMore, Taken}
+use Rattle.script_lines.specs.Reading.{AreAllLines, AreEndedLines, AreFirstLines, AreMostLines, EndsLine, HasRead, HasTaken}
+use Rattle.script_lines.specs.Reading.{IsFresh, OneMore, Taken}
 use Rattle.script_lines.specs.Text.{IsPiece, commands, ended_lines, is_command, kept, lines_of}
 use Rattle.script_lines.proofs.KeptLaws.{kept-command}
 use Rattle.script_lines.proofs.TextLaws.{lines_of-first, ended_lines-first, ended_lines-piece, lines_of-piece}

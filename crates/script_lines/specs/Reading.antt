@@ -1,5 +1,6 @@
 -- How far a text was read. Lines are counted without empty ones and comments.
-use Rattle.std.specs.Prelude.{◌≡◌, ◌+◌, ◌<◌, ◌≤◌, ◌^◌, ◌++◌, ℕ, List, [], ◌∷◌, Option, Some, Bool, true, false, MatchBool, length, take, drop}
+use Rattle.std.specs.Prelude.{◌≡◌, ◌+◌, ◌<◌, ◌≤◌, ◌^◌, ◌++◌, ℕ, List, [], ◌∷◌, Option, Some, Bool, true, false, MatchBool}
+use Rattle.std.specs.Prelude.{length, take, drop}
 use Rattle.vol_disk.specs.declared.Source.{Ghosts}
 use Rattle.vol_disk.specs.Count.{Rose}
 use Rattle.script_lines.specs.declared.reader.LineReader.{LineReader}

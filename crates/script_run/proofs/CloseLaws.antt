@@ -1,6 +1,7 @@
 -- The end of a run: the volume is closed.
 use Rattle.std.specs.Prelude.{IsOk, Result, is_ok, is_some}
-use Rattle.std.proofs.Common.{◌≡◌, ◌⊎◌, ℕ, true, false, List, [], ◌++◌, Option, Some, None, refl, sym, ap, ◌∙◌, subst, inl, inr, append-nil, true≢false}
+use Rattle.std.proofs.Common.{◌≡◌, ◌⊎◌, ℕ, true, false, List, [], ◌++◌, Option, Some, None, refl, sym, ap, ◌∙◌, subst, inl}
+use Rattle.std.proofs.Common.{inr, append-nil, true≢false}
 use Rattle.vol_disk.specs.Count.{Rose}
 use Rattle.vol_disk.specs.declared.Disk as disk
 use Rattle.vol_disk.specs.Contents.{map_told}
@@ -59,7 +60,8 @@ printed_behind (of_seed seed count) end.Memory first turns old new b p = inl (b.
 printed_behind (of_seed seed count) end.TooMuch first turns old new b p = absurd p
 
 printed_past : (from : Origin) (first : State) (turns : List Turn) (old middle new : World) → middle.got ≡ new.got
-    → middle.sink_faults ≡ new.sink_faults → IsPrinted from end.Device first turns old middle → IsPrinted from end.Device first turns old new
+    → middle.sink_faults ≡ new.sink_faults → IsPrinted from end.Device first turns old middle
+    → IsPrinted from end.Device first turns old new
 printed_past (of_script text) first turns old middle new got sink (inl all) =
     inl (subst (λ count. count ≡ old.sink_faults) sink all.0, subst (IsAppended old.got (printed_of turns)) got all.1)
 printed_past (of_script text) first turns old middle new got sink (inr part) =
@@ -142,7 +144,8 @@ ran_broken g first from given lined old new begins count b r blames now settled 
       });
     }
   where
-    by : (from : Origin) (given : ScriptEnd) → is_broken given ≡ true → BlamesLines given old new → PrintsAt from given first old.got r.turns new.got
+    by : (from : Origin) (given : ScriptEnd) → is_broken given ≡ true → BlamesLines given old new
+        → PrintsAt from given first old.got r.turns new.got
         → IsPrinted from given first r.turns old new
     by (of_script text) end.Done e b p = cc
     by (of_script text) end.Source e b p = cc
@@ -217,7 +220,8 @@ ran_unclosed g first from given lined closed old new begins count b r harms mark
       session = r.session;
       lines = r.first_lines;
       printed = printed_past from first r.turns old middle new got sink
-          (printed_behind from given first r.turns old middle blames (subst (PrintsAt from given first old.got r.turns) (sym got) r.printed));
+          (printed_behind from given first r.turns old middle blames
+          (subst (PrintsAt from given first old.got r.turns) (sym got) r.printed));
       finals = [];
       settled = settled ∙ r.settled ∙ none_behind r.turns old.settled;
       leaves = record {

@@ -1,5 +1,6 @@
 -- A run, a line longer.
-use Rattle.std.proofs.Common.{◌≡◌, ◌⊎◌, ◌≤◌, ℕ, Bool, true, false, List, [], ◌∷◌, ◌++◌, length, take, Option, Some, None, Ok, Err, refl, sym, ap, ◌∙◌, subst, inl, inr, append_assoc, append-nil, arith}
+use Rattle.std.proofs.Common.{◌≡◌, ◌⊎◌, ◌≤◌, ℕ, Bool, true, false, List, [], ◌∷◌, ◌++◌, length, take, Option, Some, None, Ok, Err, refl}
+use Rattle.std.proofs.Common.{sym, ap, ◌∙◌, subst, inl, inr, append_assoc, append-nil, arith}
 use Rattle.std.specs.Prelude.{◌||◌, is_some}
 use Rattle.std.proofs.lemmas.List.{map-append}
 use Rattle.std.proofs.lemmas.List.Folds.{list_any-append}
@@ -110,7 +111,8 @@ at_start g s first text volume script got reader fresh ready none left = record 
 
 -- the reader gave no line
 pub ended_done : {D S : Type 0} (g : disk.Ghosts D) (s : source.Ghosts S) (first : State) (text : List ℕ) (before : Option (List ℕ))
-    (past : Option (List (List ℕ))) (volume : Volume D g) (script : S) (got : Option (List ℕ)) (reader : LineReader) (left : Option (List ℕ))
+    (past : Option (List (List ℕ))) (volume : Volume D g) (script : S) (got : Option (List ℕ))
+    (reader : LineReader) (left : Option (List ℕ))
     → (f : SoFar g s first text before past volume script got reader) → AreAllLines text (lines_of f.turns) left
     → RanLines g first (of_script text) before past end.Done volume left got
 ended_done g s first text before past volume script got reader left f lines = record {
@@ -125,7 +127,8 @@ ended_done g s first text before past volume script got reader left f lines = re
 }
 
 pub ended_source : {D S : Type 0} (g : disk.Ghosts D) (s : source.Ghosts S) (first : State) (text : List ℕ) (before : Option (List ℕ))
-    (past : Option (List (List ℕ))) (volume : Volume D g) (script : S) (got : Option (List ℕ)) (reader : LineReader) (left : Option (List ℕ))
+    (past : Option (List (List ℕ))) (volume : Volume D g) (script : S) (got : Option (List ℕ))
+    (reader : LineReader) (left : Option (List ℕ))
     → (f : SoFar g s first text before past volume script got reader) → AreEndedLines text (lines_of f.turns) left
     → RanLines g first (of_script text) before past end.Source volume left got
 ended_source g s first text before past volume script got reader left f lines = record {
@@ -140,7 +143,8 @@ ended_source g s first text before past volume script got reader left f lines = 
 }
 
 pub ended_much : {D S : Type 0} (g : disk.Ghosts D) (s : source.Ghosts S) (first : State) (text : List ℕ) (before : Option (List ℕ))
-    (past : Option (List (List ℕ))) (volume : Volume D g) (script : S) (got : Option (List ℕ)) (reader : LineReader) (left : Option (List ℕ))
+    (past : Option (List (List ℕ))) (volume : Volume D g) (script : S) (got : Option (List ℕ))
+    (reader : LineReader) (left : Option (List ℕ))
     → (f : SoFar g s first text before past volume script got reader) → AreMostLines text (lines_of f.turns) left
     → RanLines g first (of_script text) before past end.TooMuch volume left got
 ended_much g s first text before past volume script got reader left f lines = record {
@@ -155,7 +159,8 @@ ended_much g s first text before past volume script got reader left f lines = re
 }
 
 pub ended_memory : {D S : Type 0} (g : disk.Ghosts D) (s : source.Ghosts S) (first : State) (text : List ℕ) (before : Option (List ℕ))
-    (past : Option (List (List ℕ))) (volume : Volume D g) (script : S) (got : Option (List ℕ)) (reader : LineReader) (left : Option (List ℕ))
+    (past : Option (List (List ℕ))) (volume : Volume D g) (script : S) (got : Option (List ℕ))
+    (reader : LineReader) (left : Option (List ℕ))
     → (f : SoFar g s first text before past volume script got reader)
     → RanLines g first (of_script text) before past end.Memory volume left got
 ended_memory g s first text before past volume script got reader left f = record {

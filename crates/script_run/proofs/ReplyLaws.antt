@@ -41,7 +41,8 @@ reads_on g first old new state r reads = record {
 }
 
 -- a line that is a command
-pub of_command : {D : Type 0} (Says : List ℕ → Said → Type 0) (g : disk.Ghosts D) (first : VolumeView) (old new : Volume D g) (before : State) (line : List ℕ)
+pub of_command : {D : Type 0} (Says : List ℕ → Said → Type 0) (g : disk.Ghosts D) (first : VolumeView) (old new : Volume D g)
+    (before : State) (line : List ℕ)
     (session : ℕ) (command : Command) (given : Reply) → Says line (Ok (session, command))
     → (is_some (mark_of g new) ≡ (is_some (mark_of g old) || is_done_edit (Ok (session, command)) given))
     → Applied g first before session command given new → Replied Says g first before old line given new
@@ -55,7 +56,8 @@ of_command Says g first old new before line session command given means marks ap
 }
 
 -- the disk failed in one
-pub failed_command : {D : Type 0} (Says : List ℕ → Said → Type 0) (g : disk.Ghosts D) (first : VolumeView) (new : Volume D g) (before : State) (line : List ℕ)
+pub failed_command : {D : Type 0} (Says : List ℕ → Said → Type 0) (g : disk.Ghosts D) (first : VolumeView) (new : Volume D g)
+    (before : State) (line : List ℕ)
     (session : ℕ) (command : Command) → Says line (Ok (session, command)) → Failed g first before session command new
     → LineFailed Says g first before line new
 failed_command Says g first new before line session command means failed = record {

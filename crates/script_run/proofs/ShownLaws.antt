@@ -13,8 +13,10 @@ sayable-shown (c.Stat path) says = tt
 sayable-shown (c.Links path) says = tt
 sayable-shown (c.Cat path stream) says = tt
 sayable-shown (c.Read path stream from len) says = tt
-sayable-shown (c.Create path) says = All-weaker IsSayableName (λ name. 1 ≤ length name) (λ name is. let some = is.some in omega (arith, some)) path says.names
-sayable-shown (c.Mkdir path) says = All-weaker IsSayableName (λ name. 1 ≤ length name) (λ name is. let some = is.some in omega (arith, some)) path says.names
+sayable-shown (c.Create path) says =
+    All-weaker IsSayableName (λ name. 1 ≤ length name) (λ name is. let some = is.some in omega (arith, some)) path says.names
+sayable-shown (c.Mkdir path) says =
+    All-weaker IsSayableName (λ name. 1 ≤ length name) (λ name is. let some = is.some in omega (arith, some)) path says.names
 sayable-shown (c.Rm path) says = tt
 sayable-shown (c.Rmdir path) says = tt
 sayable-shown (c.Ln path new) says = tt

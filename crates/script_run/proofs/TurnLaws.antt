@@ -1,5 +1,6 @@
 -- A reply that is settled, or is not.
-use Rattle.std.proofs.Common.{◌≡◌, ◌≢◌, ℕ, Bool, true, false, List, Option, Some, None, Ok, Err, refl, ap, ◌∙◌, subst, inl, inr, le_refl, le_trans}
+use Rattle.std.proofs.Common.{◌≡◌, ◌≢◌, ℕ, Bool, true, false, List, Option, Some, None, Ok, Err, refl, ap, ◌∙◌, subst, inl}
+use Rattle.std.proofs.Common.{inr, le_refl, le_trans}
 use Rattle.std.specs.Prelude.{◌||◌, is_some}
 use Rattle.vol_disk.specs.declared.Disk as disk
 use Rattle.vol_disk.specs.declared.Sink as sink

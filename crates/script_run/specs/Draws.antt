@@ -26,7 +26,8 @@ RepliedDraw g first before old x new (reply.No refused) = Replied SaysDraw g fir
 RepliedDraw g first before old x new reply.Device = LineFailed SaysDraw g first before (x ∷ []) new
 
 -- A line was answered, and settled.
-pub record Answered {D : Type 0} (g : disk.Ghosts D) (first : VolumeView) (before : State) (old : Volume D g) (line : List ℕ) (given : Reply)
+pub record Answered {D : Type 0} (g : disk.Ghosts D) (first : VolumeView) (before : State) (old : Volume D g)
+    (line : List ℕ) (given : Reply)
     (volume : Volume D g) : Type 0 where
   pub replied : Replied SaysDraw g first before old line given volume
   pub more : g.settled (disk_under g volume) ≡ settled_more (g.settled (disk_under g old)) (Some replied.next.image)

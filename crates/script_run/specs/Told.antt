@@ -29,7 +29,8 @@ pub record Printed (Prints : Option (List ℕ) → List ℕ → Option (List ℕ
 abbrev pub Tells : {D : Type 0} (g : disk.Ghosts D) → ScriptEnd → VolumeView → State → ℕ → ℕ → Volume D g → Volume D g → Option (List ℕ)
     → Option (List ℕ) → Type 0
 Tells g end.Done first last oks nos old new before after = StillReady g first last old new × Printed IsAppended oks nos last before after
-Tells g end.Sink first last oks nos old new before after = StillReady g first last old new × Printed IsAppendedPart oks nos last before after
+Tells g end.Sink first last oks nos old new before after =
+    StillReady g first last old new × Printed IsAppendedPart oks nos last before after
 Tells g end.Memory first last oks nos old new before after = StillReady g first last old new × (after ≡ before)
 Tells g end.Device first last oks nos old new before after = LineFailed SaysDraw g first last [] new × (after ≡ before)
 Tells g end.Source first last oks nos old new before after = ⊥

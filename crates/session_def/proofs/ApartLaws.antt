@@ -154,7 +154,8 @@ fourth-none None None None false refused tests e = refl
 stream-there : (facts : Facts) (m : Machine) (session : ℕ) (command : Command) (subject : Subject) (at : Located)
     → refusal facts m session command subject at ≡ None → no_stream command subject at ≡ false
 stream-there facts m session command subject at e =
-    fourth-none (when (dos_name subject at) no.DosName) (when (names_badly command at) no.BadName) (when (directory_for_file subject at) no.IsDir)
+    fourth-none (when (dos_name subject at) no.DosName) (when (names_badly command at) no.BadName)
+    (when (directory_for_file subject at) no.IsDir)
     (no_stream command subject at) no.NoStream (drop 4 (refusal_cases facts m session command subject at)) e
 
 not-false : (b : Bool) → not b ≡ false → b ≡ true
@@ -166,7 +167,8 @@ module _ (facts : Facts) (m : Machine) (session : ℕ) (at : Located) where
   link-located : (path : List (List ℕ)) → and_then (locate_path m.tree path) as_link ≡ Ok at → IsLocated m.tree at × (at.new ≡ NoName)
   link-located path e = path-located m.tree path at (link-same (locate_path m.tree path) at e)
 
-  link-each : (path : List (List ℕ)) (a : Located) → and_then (locate_path m.tree path) as_link ≡ Ok a → IsLocated m.tree a × (a.new ≡ NoName)
+  link-each : (path : List (List ℕ)) (a : Located) → and_then (locate_path m.tree path) as_link ≡ Ok a
+      → IsLocated m.tree a × (a.new ≡ NoName)
   link-each path a e = path-located m.tree path a (link-same (locate_path m.tree path) a e)
 
   pub edit-located : (command : Command) → is_edit command ≡ true → makes_file command ≡ false
@@ -239,14 +241,16 @@ module _ (f : ℕ) (tree : Tree) (apart : (g : ℕ) → IsShown tree g → g ≢
   abbrev is : ℕ → Bool
   is g = g == f
 
-  new-none : (new : NewName) → ((dir : ℕ) (name : List ℕ) → new ≡ NameIn dir name → IsShown tree dir) → list_any is (new_directory new) ≡ false
+  new-none : (new : NewName) → ((dir : ℕ) (name : List ℕ) → new ≡ NameIn dir name → IsShown tree dir)
+      → list_any is (new_directory new) ≡ false
   new-none (NameIn dir name) shown = or_from (is dir) false (ne_eqb dir f (apart dir (shown dir name refl))) refl
   new-none other shown = refl
 
   parent-none : (link : Option Link) (rest : List ℕ) → ((one : Link) → link ≡ Some one → IsShown tree one.parent) → list_any is rest ≡ false
       → list_any is (option_to_list (option_map (λ (one : Link). one.parent) link) ++ rest) ≡ false
   parent-none None rest shown none = none
-  parent-none (Some one) rest shown none = or_from (is one.parent) (list_any is rest) (ne_eqb one.parent f (apart one.parent (shown one refl))) none
+  parent-none (Some one) rest shown none =
+      or_from (is one.parent) (list_any is rest) (ne_eqb one.parent f (apart one.parent (shown one refl))) none
 
   old-none : (command : Command) (at : Located) (rest : List ℕ) → ((one : Link) → at.link ≡ Some one → IsShown tree one.parent)
       → list_any is rest ≡ false → list_any is (old_directory command at ++ rest) ≡ false
@@ -263,7 +267,8 @@ module _ (f : ℕ) (tree : Tree) (apart : (g : ℕ) → IsShown tree g → g ≢
       (old-none command at (new_directory at.new) around.parent (new-none at.new around.new))
 
 -- A HIDDEN FILE IS APART from each edit that is done, unless an entry of a file whose time is set stands in it.
-pub hidden-file : (facts : Facts) (before next : State) (session : ℕ) (command : Command) (f : ℕ) → TellsFacts before.view facts → Stands before
+pub hidden-file : (facts : Facts) (before next : State) (session : ℕ) (command : Command) (f : ℕ)
+    → TellsFacts before.view facts → Stands before
     → is_edit command ≡ true → (done : EditDone facts before session command next) → is_some (record_on before.view f) ≡ true
     → is_hidden (records_of before.view) f ≡ true → has_entry_of before.machine.tree (timed command done.at done.made) f ≡ false
     → has_entry_of next.machine.tree (timed command done.at done.made) f ≡ false
@@ -293,7 +298,8 @@ hidden-file facts before next session command f told stands edit done used hidde
         apart done.at.file (edit-located facts before.machine session done.at command edit makes found free).0 file
 
 -- so it keeps all attributes but a few
-pub hidden-keeps : (facts : Facts) (before next : State) (session : ℕ) (command : Command) (f : ℕ) → TellsFacts before.view facts → Stands before
+pub hidden-keeps : (facts : Facts) (before next : State) (session : ℕ) (command : Command) (f : ℕ)
+    → TellsFacts before.view facts → Stands before
     → is_edit command ≡ true → (done : EditDone facts before session command next) → is_some (record_on before.view f) ≡ true
     → is_hidden (records_of before.view) f ≡ true → has_entry_of before.machine.tree (timed command done.at done.made) f ≡ false
     → has_entry_of next.machine.tree (timed command done.at done.made) f ≡ false

@@ -1,6 +1,6 @@
 -- FROM THE RECORD OF ALL CALLS of a command, and the first mark, to what an edit leaves.
-use Rattle.std.proofs.Common.{◌≡◌, ◌<◌, ◌≤◌, ◌+◌, ◌||◌, ◌==◌, ℕ, Bool, true, false, List, [], length, Option, Some, None, filter, refl, sym, ap}
-use Rattle.std.proofs.Common.{subst, ◌∙◌, arith}
+use Rattle.std.proofs.Common.{◌≡◌, ◌<◌, ◌≤◌, ◌+◌, ◌||◌, ◌==◌, ℕ, Bool, true, false, List, [], length, Option, Some, None, filter, refl, sym}
+use Rattle.std.proofs.Common.{ap, subst, ◌∙◌, arith}
 use Rattle.std.specs.Prelude.{is_some}
 use Rattle.std.proofs.lemmas.Bool.{and_parts, eqb-true, or_from, or_parts}
 use Rattle.ntfs_def.specs.declared.kinds.TheConstants.{DATA, VOLUME_INFORMATION}
@@ -40,7 +40,8 @@ NamesIn named changed = (key : Key) → named key ≡ false → changed key ≡ 
 
 four-parts : (view : VolumeView) (before next : Tree) (command : Command) (at : Located) (made : ℕ) (key : Key)
     → is_named view before next command at made key ≡ false
-    → (is_room_key key ≡ false) × (is_log_key key ≡ false) × (is_mark_key key ≡ false) × (is_changed_key view before next command at made key ≡ false)
+    → (is_room_key key ≡ false) × (is_log_key key ≡ false) × (is_mark_key key ≡ false)
+    × (is_changed_key view before next command at made key ≡ false)
 unfolding is_named
 four-parts view before next command at made key e =
     let a = or_parts (is_room_key key) _ e in
@@ -53,24 +54,29 @@ none-of a b c d e p q r s t = rw (p, q, r, s, t) refl
 
 -- ALL ATTRIBUTES but those that the command names, and what their headers tell
 names-less : (view : VolumeView) (before next : Tree) (command : Command) (at : Located) (made : ℕ) (changed : Key → Bool)
-    → NamesIn (is_changed_key view before next command at made) changed → (key : Key) → is_named view before next command at made key ≡ false
+    → NamesIn (is_changed_key view before next command at made) changed → (key : Key)
+    → is_named view before next command at made key ≡ false
     → either (either is_room_key changed) (either is_table_key is_first_key) key ≡ false
 names-less view before next command at made changed inside key e =
     let t = four-parts view before next command at made key e in
-    none-of (is_room_key key) (changed key) (is_log_key key) (is_mark_key key) (is_table_key key) t.0 (inside key t.3) t.1 t.2 (table-room key t.0)
+    none-of (is_room_key key) (changed key) (is_log_key key) (is_mark_key key) (is_table_key key) t.0
+    (inside key t.3) t.1 t.2 (table-room key t.0)
 
 pub calls-kept : (view : VolumeView) (before next : Tree) (command : Command) (at : Located) (made : ℕ) (changed : Key → Bool)
     (old staged new : VolumeView)
-    → NamesIn (is_changed_key view before next command at made) changed → KeepsBut (either is_room_key changed) old staged → IsMarkedFrom staged new
+    → NamesIn (is_changed_key view before next command at made) changed → KeepsBut (either is_room_key changed) old staged
+    → IsMarkedFrom staged new
     → KeepsBut (is_named view before next command at made) old new
 calls-kept view before next command at made changed old staged new inside kept marked f =
-    KeepsFile-more (either (either is_room_key changed) (either is_table_key is_first_key)) (is_named view before next command at made) old new f
+    KeepsFile-more (either (either is_room_key changed) (either is_table_key is_first_key))
+    (is_named view before next command at made) old new f
     (names-less view before next command at made changed inside)
     (KeepsBut-then (either is_room_key changed) (either is_table_key is_first_key) old staged new kept marked.kept f)
 
 forms-less : (view : VolumeView) (before next : Tree) (command : Command) (at : Located) (made : ℕ) (changed : Key → Bool)
     → NamesIn (is_changed_key view before next command at made) changed → (key : Key)
-    → either is_list_key (is_changed_key view before next command at made) key ≡ false → either (either is_list_key changed) is_no_key key ≡ false
+    → either is_list_key (is_changed_key view before next command at made) key ≡ false
+    → either (either is_list_key changed) is_no_key key ≡ false
 forms-less view before next command at made changed inside key e =
     let t = or_parts (is_list_key key) _ e in
     or_from (is_list_key key || changed key) false (or_from (is_list_key key) (changed key) t.0 (inside key t.1)) refl
@@ -80,7 +86,8 @@ pub calls-forms : (view : VolumeView) (before next : Tree) (command : Command) (
     → NamesIn (is_changed_key view before next command at made) changed → ((f : ℕ) → KeepsForms (either is_list_key changed) old staged f)
     → IsMarkedFrom staged new → (f : ℕ) → KeepsForms (either is_list_key (is_changed_key view before next command at made)) old new f
 calls-forms view before next command at made changed old staged new inside forms marked f =
-    KeepsForms-more (either (either is_list_key changed) is_no_key) (either is_list_key (is_changed_key view before next command at made)) old new f
+    KeepsForms-more (either (either is_list_key changed) is_no_key)
+    (either is_list_key (is_changed_key view before next command at made)) old new f
     (forms-less view before next command at made changed inside)
     (KeepsForms-then (either is_list_key changed) is_no_key old staged new f (forms f) (marked.forms f))
 
@@ -98,12 +105,14 @@ same-volume staged new e = record {
   count = let same = ap (λ (layout : TableLayout). layout.count) e in omega (arith, same);
 }
 
-pub calls-places : (changed : Key → Bool) (wants : Wants) (old staged new : VolumeView) (was now : Marks) → Edited changed wants old staged was now
+pub calls-places : (changed : Key → Bool) (wants : Wants) (old staged new : VolumeView) (was now : Marks)
+    → Edited changed wants old staged was now
     → IsMarkedFrom staged new → StaysInPlace old new
 calls-places changed wants old staged new was now e m =
     in_place-then old staged new e.volume (same-volume staged new m.layout) e.places m.places
 
-pub calls-rest : (changed : Key → Bool) (wants : Wants) (old staged new : VolumeView) (was now : Marks) → Edited changed wants old staged was now
+pub calls-rest : (changed : Key → Bool) (wants : Wants) (old staged new : VolumeView) (was now : Marks)
+    → Edited changed wants old staged was now
     → IsMarkedFrom staged new
     → (k : ℕ) → new.rest k ≡ old.rest k
 calls-rest changed wants old staged new was now e m k = m.rest k ∙ e.rest k
@@ -116,7 +125,8 @@ no-record (Some r) (Some q) same none = cc
 pub calls-system : (changed : Key → Bool) (wants : Wants) (old staged new : VolumeView) (was now : Marks)
     → Edited changed wants old staged was now → IsMarkedFrom staged new
     → (n : ℕ) → n < 24 → record_on old n ≡ None → record_on new n ≡ None
-calls-system changed wants old staged new was now e m n low none = no-record (record_on new n) (record_on staged n) (m.used n) (e.system n low none)
+calls-system changed wants old staged new was now e m n low none =
+    no-record (record_on new n) (record_on staged n) (m.used n) (e.system n low none)
 
 pub calls-held : (changed : Key → Bool) (wants : Wants) (old staged new : VolumeView) (was now : Marks)
     → Edited changed wants old staged was now → IsMarkedFrom staged new
@@ -124,18 +134,21 @@ pub calls-held : (changed : Key → Bool) (wants : Wants) (old staged new : Volu
 calls-held changed wants old staged new was now e m n bare = e.held n (sym (m.bare n) ∙ bare)
 
 -- OWNERS AND RECORDS, from the account of the calls. `plan` names the files that the bill touches; a new one by its number.
-pub calls-owners : (changed : Key → Bool) (old staged new : VolumeView) (was now : Marks) (plan : Plan) (bill : Bill) (goes : ℕ → Bool) (units : ℕ → ℕ)
+pub calls-owners : (changed : Key → Bool) (old staged new : VolumeView) (was now : Marks) (plan : Plan) (bill : Bill)
+    (goes : ℕ → Bool) (units : ℕ → ℕ)
     → IsEditable old was → IsTabled old → plan.size ≡ cluster_bytes old.layout → AreDistinct plan.files
     → IsPlanned plan (room_of old plan) (wants_of plan bill goes units) → AreTouched plan (room_of old plan) plan.files bill.touched
     → records_wanted bill ≤ 4096
     → Edited changed (wants_of plan bill goes units) old staged was now → IsMarkedFrom staged new
     → unowned_clusters old ≤ unowned_clusters new + need_on old bill
 calls-owners changed old staged new was now plan bill goes units start tabled size apart planned touched few e m =
-    let taken = owners-taken old staged plan bill goes units size apart tabled start.bitmaps.records e.volume.clusters start.owners e.editable.owners planned touched few e.spent in
+    let taken = owners-taken old staged plan bill goes units size apart tabled start.bitmaps.records e.volume.clusters start.owners
+    e.editable.owners planned touched few e.spent in
     let need : need_of plan.size (unused_records old) bill ≡ need_on old bill = ap (λ s. need_of s (unused_records old) bill) size in
     omega (arith, taken, need, m.owners)
 
-pub calls-records : (changed : Key → Bool) (old staged new : VolumeView) (was now : Marks) (plan : Plan) (bill : Bill) (goes : ℕ → Bool) (units : ℕ → ℕ) → 0 < plan.size
+pub calls-records : (changed : Key → Bool) (old staged new : VolumeView) (was now : Marks) (plan : Plan) (bill : Bill) (goes : ℕ → Bool)
+    (units : ℕ → ℕ) → 0 < plan.size
     → IsPlanned plan (room_of old plan) (wants_of plan bill goes units) → AreTouched plan (room_of old plan) plan.files bill.touched
     → Edited changed (wants_of plan bill goes units) old staged was now → IsMarkedFrom staged new
     → in_use (records_of new) ≤ in_use (records_of old) + records_wanted bill
@@ -152,7 +165,8 @@ calls-count changed old staged new was now plan bill goes units start tabled siz
     ∙ count-taken old staged plan bill goes units size apart tabled start.bitmaps.records start.owners planned touched e.spent enough
 
 -- THE LOG AND THE MARK: no call names them.
-pub calls-log : (changed : Key → Bool) (wants : Wants) (old staged new : VolumeView) (was now : Marks) → Edited changed wants old staged was now
+pub calls-log : (changed : Key → Bool) (wants : Wants) (old staged new : VolumeView) (was now : Marks)
+    → Edited changed wants old staged was now
     → IsMarkedFrom staged new
     → changed (key_of LOG_FILE DATA []) ≡ false → KeepsPlaces old new LOG_FILE
 calls-log changed wants old staged new was now e m same =
@@ -179,7 +193,8 @@ versions-kept changed old new same kept =
     (SameItems-filter is_version (filter (is_kept changed VOLUME) (told_of old VOLUME)) (filter (is_kept changed VOLUME)
     (told_of new VOLUME)) kept.told)))
 
-pub calls-mark : (changed : Key → Bool) (wants : Wants) (old staged new : VolumeView) (was now : Marks) → Edited changed wants old staged was now
+pub calls-mark : (changed : Key → Bool) (wants : Wants) (old staged new : VolumeView) (was now : Marks)
+    → Edited changed wants old staged was now
     → IsMarkedFrom staged new
     → changed (key_of VOLUME VOLUME_INFORMATION []) ≡ false → SameItems (versions old) (versions new)
 calls-mark changed wants old staged new was now e m same =

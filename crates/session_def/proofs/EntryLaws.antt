@@ -19,7 +19,8 @@ filter-both : (p : Item → Bool) (xs ys : List Item) → filter p (xs ++ ys) �
 filter-both p [] ys = refl
 filter-both p (x ∷ xs) ys = by (filter-both p xs ys) (p x) refl
   where
-    by : filter p (xs ++ ys) ≡ filter p xs ++ filter p ys → (b : Bool) → p x ≡ b → filter p ((x ∷ xs) ++ ys) ≡ filter p (x ∷ xs) ++ filter p ys
+    by : filter p (xs ++ ys) ≡ filter p xs ++ filter p ys → (b : Bool) → p x ≡ b
+        → filter p ((x ∷ xs) ++ ys) ≡ filter p (x ∷ xs) ++ filter p ys
     by ih true e = rw e (ap (λ l. x ∷ l) ih)
     by ih false e = rw e ih
 

@@ -1,5 +1,5 @@
--- HIDDEN FILES keep every attribute but those that room, the mark, and keys of $R and $O are kept in: of a file that the command is not about, and
--- in which no entry of its nodes stands, no other is named.
+-- HIDDEN FILES keep every attribute but those that room, the mark, and keys of $R and $O are kept in: of a file that the command is not
+-- about, and in which no entry of its nodes stands, no other is named.
 use Rattle.std.proofs.Common.{◌≡◌, ◌||◌, ◌&&◌, ◌==◌, ℕ, Bool, true, false, List, refl}
 use Rattle.std.proofs.lemmas.Bool.{or_parts, or_from}
 use Rattle.volume_def.specs.View.{VolumeView}
@@ -41,7 +41,8 @@ module _ (before next : Tree) (at : Located) (made f kind : ℕ) (name : List �
 
 named-none : (view : VolumeView) (before next : Tree) (command : Command) (at : Located) (made f kind : ℕ) (name : List ℕ)
     → IsApart before next command at made f
-    → is_excepted view before command at (key_of f kind name) ≡ false → is_named view before next command at made (key_of f kind name) ≡ false
+    → is_excepted view before command at (key_of f kind name) ≡ false
+    → is_named view before next command at made (key_of f kind name) ≡ false
 unfolding is_named
 named-none view before next command at made f kind name apart e =
     let key = key_of f kind name in
@@ -51,7 +52,8 @@ named-none view before next command at made f kind name apart e =
     or_from (is_room_key key) _ a.0 (or_from (is_log_key key) _ b.0 (or_from (is_mark_key key) _ d.0
     (or_from (is_own_key before command at made key) _ (own before next at made f kind name command apart.main)
     (or_from (is_times_key (timed command at made) key) _ (and-none _ _ (and-none _ _ apart.nodes))
-    (or_from (is_directory_key before next (timed command at made) key) _ (and-none _ _ (and-none _ _ (or_from _ _ apart.was apart.now))) d.1)))))
+    (or_from (is_directory_key before next (timed command at made) key) _
+    (and-none _ _ (and-none _ _ (or_from _ _ apart.was apart.now))) d.1)))))
 
 pub hidden-kept : (view : VolumeView) (before next : Tree) (command : Command) (at : Located) (made f : ℕ) (old new : VolumeView)
     → IsApart before next command at made f

@@ -10,8 +10,8 @@ use Rattle.list_laws.proofs.FindLaws.{find-found}
 use Rattle.list_laws.proofs.MemberLaws.{Contains-from_filter}
 use Rattle.list_laws.proofs.OrderedLaws.{Contains-from_in_order}
 use Rattle.ntfs_def.specs.declared.records.TheConstants.{ROOT}
-use Rattle.tree_model.specs.Paths.{Place, and_then, found_file, found_link, last_place, links_in_order, lookup, passed, passed_node, reached}
-use Rattle.tree_model.specs.Paths.{reached_node, resolve, resolve_new}
+use Rattle.tree_model.specs.Paths.{Place, and_then, found_file, found_link, last_place, links_in_order, lookup, passed, passed_node}
+use Rattle.tree_model.specs.Paths.{reached, reached_node, resolve, resolve_new}
 use Rattle.tree_model.specs.Tree.{Tree, are_same, is_in, leads_to, link_above, links_in, node_of, shown_node}
 use Rattle.tree_model.specs.declared.reply.No.{No}
 use Rattle.tree_model.specs.declared.reply.No.TheVariants as no
@@ -62,7 +62,8 @@ passed-shown tree None inner e = cc
 passed-shown tree (Some link) inner e = by (shown_node tree link) refl e
   where
     last : (node : Node) → shown_node tree link ≡ Some node → (dir point : Bool)
-        → ◌≡◌ {A = Result ℕ No} (if dir then (if point then Err no.Reparse else Ok link.child) else Err no.NotDir) (Ok inner) → IsShown tree inner
+        → ◌≡◌ {A = Result ℕ No} (if dir then (if point then Err no.Reparse else Ok link.child) else Err no.NotDir) (Ok inner)
+        → IsShown tree inner
     last node at true true e = cc
     last node at true false e = let same : link.child ≡ inner = cc in subst (IsShown tree) same (inr (shown-node tree link node at))
     last node at false point e = cc
@@ -123,12 +124,14 @@ resolve-shown tree (name ∷ names) there e = by (last_place tree ROOT name name
     by (Ok place) at e = ends place (last-shown tree ROOT name names place (inl refl) at) (lookup tree place.directory place.name) refl e
 
 -- where a new name would stand
-pub new-shown : (tree : Tree) (path : List (List ℕ)) (place : Place) → resolve_new tree path ≡ Ok (Some place) → IsShown tree place.directory
+pub new-shown : (tree : Tree) (path : List (List ℕ)) (place : Place) → resolve_new tree path ≡ Ok (Some place)
+    → IsShown tree place.directory
 unfolding resolve_new
 new-shown tree [] place e = cc
 new-shown tree (name ∷ names) place e = by (last_place tree ROOT name names) refl e
   where
-    by : (r : Result Place No) → last_place tree ROOT name names ≡ r → and_then r (λ p. Ok (Some p)) ≡ Ok (Some place) → IsShown tree place.directory
+    by : (r : Result Place No) → last_place tree ROOT name names ≡ r → and_then r (λ p. Ok (Some p)) ≡ Ok (Some place)
+        → IsShown tree place.directory
     by (Err refused) at e = cc
     by (Ok p) at e = let same : p ≡ place = cc in subst (λ (q : Place). IsShown tree q.directory) same (last-shown tree ROOT name names p
         (inl refl) at)

@@ -13,13 +13,15 @@ stands-last Says first [] stands s = stands
 stands-last Says first (turn ∷ turns) stands s = stands-last Says turn.next turns s.0.1.stands s.1
 
 -- the volume is the one on which it began
-pub clean-run : (Says : List ℕ → Said → Type 0) (first : State) (turns : List Turn) → Begins first → Session Says first turns → has_edit turns ≡ false
+pub clean-run : (Says : List ℕ → Said → Type 0) (first : State) (turns : List Turn) → Begins first
+    → Session Says first turns → has_edit turns ≡ false
     → IsClean (last_of first turns).view
 clean-run Says first turns begins s none =
     subst IsClean (sym (same-view first (last_of first turns) begins.stands (stands-last Says first turns begins.stands s)
     (untouched Says first turns s none).image)) begins.clean
 
-done-marks : (facts : Facts) (before : State) (said : Said) (next : State) → Edits facts before said next → IsDirty next.view × HasEmptyLog next.view
+done-marks : (facts : Facts) (before : State) (said : Said) (next : State) → Edits facts before said next
+    → IsDirty next.view × HasEmptyLog next.view
 done-marks facts before (Ok said) next e = (e.leaves.dirty, e.leaves.log)
 done-marks facts before (Err fault) next e = elim e [ ]
 

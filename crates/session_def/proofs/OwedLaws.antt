@@ -24,18 +24,22 @@ leaves-done before next command at made c o =
         volume = calls-volume c.changed wants old c.staged new c.was c.now c.edited c.marked;
         long = o.long;
         rest = calls-rest c.changed wants old c.staged new c.was c.now c.edited c.marked;
-        kept = calls-kept old before.machine.tree next.machine.tree command at made c.changed old c.staged new c.inside c.edited.kept c.marked;
+        kept = calls-kept old before.machine.tree next.machine.tree command at made c.changed old c.staged new
+            c.inside c.edited.kept c.marked;
         log = calls-log c.changed wants old c.staged new c.was c.now c.edited c.marked c.no_log;
         places = calls-places c.changed wants old c.staged new c.was c.now c.edited c.marked;
         mark = calls-mark c.changed wants old c.staged new c.was c.now c.edited c.marked c.no_mark;
         named = o.named;
       };
       takes = record {
-        owners = calls-owners c.changed old c.staged new c.was c.now c.plan bill goes c.units c.start c.tabled c.size c.apart c.planned c.touched c.few c.edited c.marked;
-        records = calls-records c.changed old c.staged new c.was c.now c.plan bill goes c.units c.large c.planned c.touched c.edited c.marked;
+        owners = calls-owners c.changed old c.staged new c.was c.now c.plan bill goes c.units c.start c.tabled c.size c.apart c.planned
+            c.touched c.few c.edited c.marked;
+        records = calls-records c.changed old c.staged new c.was c.now c.plan bill goes c.units c.large c.planned
+            c.touched c.edited c.marked;
         system = calls-system c.changed wants old c.staged new c.was c.now c.edited c.marked;
         held = calls-held c.changed wants old c.staged new c.was c.now c.edited c.marked;
-        count = calls-count c.changed old c.staged new c.was c.now c.plan bill goes c.units c.start c.tabled c.size c.apart c.planned c.touched c.edited c.marked;
+        count = calls-count c.changed old c.staged new c.was c.now c.plan bill goes c.units c.start c.tabled c.size c.apart c.planned
+            c.touched c.edited c.marked;
         clusters = o.clusters;
       };
       exact = record {
@@ -48,7 +52,8 @@ leaves-done before next command at made c o =
           made_forms = o.made_forms;
           lists = o.lists;
           log_end = o.log_end;
-          forms = calls-forms old before.machine.tree next.machine.tree command at made c.changed old c.staged new c.inside c.edited.forms c.marked;
+          forms = calls-forms old before.machine.tree next.machine.tree command at made c.changed old c.staged new
+              c.inside c.edited.forms c.marked;
         };
       };
       dirty = c.marked.dirty;

@@ -8,7 +8,8 @@ use Rattle.tree_model.proofs.StepLaws.{one_volume}
 use Rattle.tree_model.specs.Refusals.{Facts}
 use Rattle.session_def.specs.Cost.{cost_of}
 use Rattle.session_def.specs.Done.{first_cost}
-use Rattle.session_def.specs.Session.{DoneCosts, EditCosts, Edits, IsUntouched, RunCosts, Said, Session, Turn, has_edit, is_done_edit, last_of, mark_cost}
+use Rattle.session_def.specs.Session.{DoneCosts, EditCosts, Edits, IsUntouched, RunCosts, Said, Session, Turn, has_edit}
+use Rattle.session_def.specs.Session.{is_done_edit, last_of, mark_cost}
 use Rattle.session_def.specs.State.{IsDirty, Stands, State}
 
 -- where nothing was done, nothing changed
@@ -56,7 +57,8 @@ done-costs facts before (Err fault) next told e = elim e [ ]
 pub run-costs : (Says : List ℕ → Said → Type 0) (first : State) (turns : List Turn) → Stands first → Session Says first turns
     → (n : ℕ) × RunCosts first turns n × ((last_of first turns).written ≤ first.written + mark_cost (has_edit turns) first + n)
 run-costs Says first [] stands s = (0, refl, omega arith)
-run-costs Says first (turn ∷ turns) stands s = by (run-costs Says turn.next turns s.0.1.stands s.1) (is_done_edit turn.said turn.answer) refl
+run-costs Says first (turn ∷ turns) stands s =
+    by (run-costs Says turn.next turns s.0.1.stands s.1) (is_done_edit turn.said turn.answer) refl
   where
     by : (rest : ℕ) × RunCosts turn.next turns rest × ((last_of turn.next turns).written ≤ turn.next.written + mark_cost
         (has_edit turns) turn.next + rest)

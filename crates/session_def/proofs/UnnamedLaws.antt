@@ -44,7 +44,8 @@ flags-told : (o u : Option Part) → option_map told_by o ≡ option_map told_by
     → option_map (λ (part : Part). part.flags) o ≡ option_map (λ (part : Part). part.flags) u
 flags-told o u e = map-flags o ∙ ap (option_map (λ (told : Told). told.flags)) e ∙ sym (map-flags u)
   where
-    map-flags : (o : Option Part) → option_map (λ (part : Part). part.flags) o ≡ option_map (λ (told : Told). told.flags) (option_map told_by o)
+    map-flags : (o : Option Part) → option_map (λ (part : Part). part.flags) o
+        ≡ option_map (λ (told : Told). told.flags) (option_map told_by o)
     map-flags None = refl
     map-flags (Some part) = refl
 

@@ -8,7 +8,8 @@ use Rattle.edit_def.specs.Edited.{is_room_key}
 use Rattle.edit_def.specs.Kept.{Key}
 use Rattle.session_def.specs.Named.{has_entry_of, is_log_key, is_mark_key, is_one_of, is_view_key, main_file, timed}
 
--- It is not the file of the command, the command sets no time of it, and no entry of a file whose time is set stands in it, before or after.
+-- It is not the file of the command, the command sets no time of it,
+-- and no entry of a file whose time is set stands in it, before or after.
 pub record IsApart (before next : Tree) (command : Command) (at : Located) (made f : ℕ) : Type 0 where
   pub main : (f == main_file command at made) ≡ false
   pub nodes : is_one_of (timed command at made) f ≡ false

@@ -104,10 +104,12 @@ abbrev pub log_parts : VolumeView → List Part
 log_parts view = parts_at view LOG_FILE DATA []
 
 abbrev pub is_written_log : VolumeView → Part → Bool
-is_written_log view part = is_some (record_on view LOG_FILE) && (is_some (content_extent part.content) && not (is_packed part.kind part.flags))
+is_written_log view part = is_some (record_on view LOG_FILE)
+    && (is_some (content_extent part.content) && not (is_packed part.kind part.flags))
 
 abbrev pub log_size : VolumeView → Part → ℕ
-log_size view part = if is_written_log view part then option_map_or (λ extent. extent.sizes.initialized) (content_extent part.content) 0 else 0
+log_size view part = if is_written_log view part then
+    option_map_or (λ extent. extent.sizes.initialized) (content_extent part.content) 0 else 0
 
 -- the bytes of it that are emptied: below its initialized size
 unfoldable pub log_bytes : VolumeView → ℕ

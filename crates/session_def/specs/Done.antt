@@ -1,7 +1,7 @@
 -- WHAT AN EDIT THAT WAS DONE LEAVES: what it kept beside the tree, what it took and gave back, that entries of directories tell what their
 -- files do, the mark and the emptied log, and how many sectors it wrote.
-use Rattle.std.specs.Prelude.{◌≡◌, ℕ, ◌+◌, ◌*◌, ◌%◌, ◌/◌, ◌<◌, ◌≤◌, ◌==◌, ◌&&◌, ◌||◌, not, nat_le, nat_lt, min, Bool, true, false, List, [], ◌∷◌}
-use Rattle.std.specs.Prelude.{length, map, slice_index, Option, Some, None, Ok, IsTrue, is_some, if◌then◌else◌}
+use Rattle.std.specs.Prelude.{◌≡◌, ℕ, ◌+◌, ◌*◌, ◌%◌, ◌/◌, ◌<◌, ◌≤◌, ◌==◌, ◌&&◌, ◌||◌, not, nat_le, nat_lt, min, Bool, true, false, List, []}
+use Rattle.std.specs.Prelude.{◌∷◌, length, map, slice_index, Option, Some, None, Ok, IsTrue, is_some, if◌then◌else◌}
 use Rattle.std.specs.Option.{option_map_or}
 use Rattle.ntfs_def.specs.Node.{Item}
 use Rattle.ntfs_def.specs.declared.kinds.TheConstants.{STANDARD_INFORMATION}
@@ -113,7 +113,8 @@ counts_vcn size (c.Truncate path stream end) at was vcn = grows end at.content &
 counts_vcn size (c.Punch path stream from len) at was vcn = false
 counts_vcn size other at was vcn = true
 
--- and those that it may own afterwards: by `truncate` none behind the end, by `punch` none of which all bytes below the size lie in the range
+-- and those that it may own afterwards: by `truncate` none behind the end,
+-- by `punch` none of which all bytes below the size lie in the range
 abbrev pub may_own : ℕ → Command → ℕ → ℕ → Bool
 may_own size (c.Truncate path stream end) real vcn = nat_lt (vcn * size) end
 may_own size (c.Punch path stream from len) real vcn =
@@ -174,8 +175,8 @@ pub record LeavesDone (before next : State) (command : Command) (at : Located) (
   pub wrote : next.written ≤ before.written + first_cost before.view
       + cost_of before.view next.view before.machine.tree next.machine.tree command at made
 
--- AN EDIT THAT WAS DONE, by a command of a session: what its words lead to, the number of the file that it made, where it makes one, and what
--- it left.
+-- AN EDIT THAT WAS DONE, by a command of a session: what its words lead to, the number of the file that it made, where it makes one, and
+-- what it left.
 pub record EditDone (facts : Facts) (before : State) (session : ℕ) (command : Command) (next : State) : Type 0 where
   pub at : Located
   pub found : outcome facts before.machine session command ≡ Ok at

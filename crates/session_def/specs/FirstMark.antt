@@ -1,5 +1,5 @@
--- WHAT THE FIRST EDIT OF A RUN DOES beside its own: the flag is set, and the log emptied. `staged` is the volume as the edit made it. Of a later
--- edit nothing but the edit is written, and this holds of the staged volume itself.
+-- WHAT THE FIRST EDIT OF A RUN DOES beside its own: the flag is set, and the log emptied. `staged` is the volume as the edit made it. Of a
+-- later edit nothing but the edit is written, and this holds of the staged volume itself.
 use Rattle.std.specs.Prelude.{◌≡◌, ℕ, ◌||◌, Bool, false, is_some}
 use Rattle.ntfs_def.specs.declared.records.TheConstants.{LOG_FILE}
 use Rattle.volume_def.specs.Files.{record_on, records_of}

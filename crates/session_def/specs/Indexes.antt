@@ -39,8 +39,8 @@ abbrev pub stays_in : List Link → List Item → Item → Bool
 stays_in gone was item = list_any (is_same_entry item) was && not (is_gone gone item)
 
 -- What a key tells that the tree does not show. 0x38: the flags but for those that are shown; of these 0x200, sparse, and 0x400, a reparse
--- point, stay or are as the file has them. 0x3C: the tag of a reparse point, or the length of attributes. From 0x40 on: the name, and what stands
--- behind it.
+-- point, stay or are as the file has them. 0x3C: the tag of a reparse point, or the length of attributes. From 0x40 on: the name, and what
+-- stands behind it.
 abbrev pub key_flags : List ℕ → ℕ
 key_flags key = u32_at key 0x38
 
@@ -97,7 +97,8 @@ pub record KeepsIndex (old new : VolumeView) (changes : List Change) (index : In
   pub depth : index_depth new index ≤ index_depth old index + keys_changed old changes index
   pub records : index_records new index ≤ index_records old index + most_split (index_depth old index) (keys_changed old changes index)
   pub same : keys_moved changes index ≡ 0 → index_bits new index ≡ index_bits old index
-  pub set : bits_set (index_bits new index) ≤ bits_set (index_bits old index) + most_split (index_depth old index) (keys_changed old changes index)
+  pub set : bits_set (index_bits new index)
+      ≤ bits_set (index_bits old index) + most_split (index_depth old index) (keys_changed old changes index)
 
 abbrev pub KeepsIndexIfThere : VolumeView → VolumeView → List Change → Index → Type 0
 KeepsIndexIfThere old new changes index = (was now : Part) → first_part (parts_at old index.file INDEX_ROOT index.name) ≡ Some was

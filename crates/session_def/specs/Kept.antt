@@ -1,6 +1,7 @@
 -- WHAT AN EDIT KEEPS BESIDE THE TREE of the attributes that it names, and of entries: parts of a value, names, keys of $R and $O.
 use Rattle.std.specs.Prelude.{◌≡◌, ◌⊎◌, ℕ, ◌-◌, ◌%◌, ◌&&◌, ◌||◌, not, nat_le, nat_lt, Bool, true, false, List, [], ◌∷◌, ◌++◌}
-use Rattle.std.specs.Prelude.{bit_and, filter, length, map, slice_index, slice_set, Contains, Option, Some, None, option_map, unwrap_or, MatchBool}
+use Rattle.std.specs.Prelude.{bit_and, filter, length, map, slice_index, slice_set, Contains, Option, Some, None}
+use Rattle.std.specs.Prelude.{option_map, unwrap_or, MatchBool}
 use Rattle.std.specs.List.{list_any}
 use Rattle.ntfs_def.specs.StandardInformation.{dos_flags}
 use Rattle.ntfs_def.specs.FileName as names
@@ -120,5 +121,6 @@ IsRight new before next added was item = IsCurrent new (file_in item) item.key
 
 -- All entries of other files stay as they were, and each of these files' is right.
 pub record KeepsEntries (new : VolumeView) (before next : Tree) (files : List ℕ) (added : List Link) (was now : List Item) : Type 0 where
-  pub others : SameItems (filter (λ item. not (is_one_of files (file_in item))) was) (filter (λ item. not (is_one_of files (file_in item))) now)
+  pub others : SameItems (filter (λ item. not (is_one_of files (file_in item))) was)
+      (filter (λ item. not (is_one_of files (file_in item))) now)
   pub own : (item : Item) → Contains now item → is_one_of files (file_in item) ≡ true → IsRight new before next added was item

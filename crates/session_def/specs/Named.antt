@@ -95,7 +95,8 @@ is_index_kind kind = (kind == INDEX_ROOT) || (kind == INDEX_ALLOCATION) || (kind
 
 abbrev pub is_directory_key : Tree → Tree → List ℕ → Key → Bool
 is_directory_key before next files key =
-    is_index_kind key.kind && (bytes_eq key.name (wide (codes "$I30")) && (has_entry_of before files key.file || has_entry_of next files key.file))
+    is_index_kind key.kind
+    && (bytes_eq key.name (wide (codes "$I30")) && (has_entry_of before files key.file || has_entry_of next files key.file))
 
 -- $R where a key comes or goes, and $O where one goes, if they are there
 abbrev pub is_key_of_index : Key → Index → Bool

@@ -1,7 +1,7 @@
 -- NODES EXACTLY: flags that the tree does not show, numbers of records, a new file, the named stream's header, and the reparse point.
-use Rattle.std.specs.Prelude.{◌≡◌, ◌⊎◌, ⊤, ℕ, ◌+◌, ◌*◌, ◌/◌, ◌<◌, ◌≤◌, ◌==◌, ◌&&◌, not, Bool, true, false, List, [], ◌∷◌, bit_and, codes, count_by, drop}
-use Rattle.std.specs.Prelude.{length, map, slice_index, Contains, IsSomeAnd, Option, Some, IfSome, is_none, is_some, option_and_then, option_map}
-use Rattle.std.specs.Prelude.{unwrap_or, if◌then◌else◌}
+use Rattle.std.specs.Prelude.{◌≡◌, ◌⊎◌, ⊤, ℕ, ◌+◌, ◌*◌, ◌/◌, ◌<◌, ◌≤◌, ◌==◌, ◌&&◌, not, Bool, true, false, List, [], ◌∷◌, bit_and, codes}
+use Rattle.std.specs.Prelude.{count_by, drop, length, map, slice_index, Contains, IsSomeAnd, Option, Some, IfSome, is_none, is_some}
+use Rattle.std.specs.Prelude.{option_and_then, option_map, unwrap_or, if◌then◌else◌}
 use Rattle.std.specs.List.{list_any, range_with_len}
 use Rattle.std.specs.Option.{option_map_or}
 use Rattle.vol_bytes.specs.Field.{u16_at, u32_at}
@@ -74,14 +74,15 @@ has_hole extents = list_any (λ part. list_any (λ run. is_none run.lcn) (part_r
 abbrev pub edits_unnamed : Tree → Command → Located → ℕ → Bool
 edits_unnamed tree command at f = (f == at.file) && (edits_stream command && (length (spelt tree at) == 0))
 
--- 0x400 comes and goes with the point. 0x200 stays, or is set where the command leaves the unnamed stream sparse, as it is with the first hole
--- of that stream.
+-- 0x400 comes and goes with the point. 0x200 stays, or is set where the command leaves the unnamed stream sparse, as it is with the first
+-- hole of that stream.
 pub record KeepsDosFlags (old new : VolumeView) (before : Tree) (command : Command) (at : Located) (made f : ℕ) : Type 0 where
   pub point : flag_of 0x400 new f
       ≡ (if main_file command at made == f then point_flag command (flag_of 0x400 old f) else flag_of 0x400 old f)
   pub sparse : (flag_of 0x200 new f ≡ flag_of 0x200 old f)
       ⊎ ((edits_unnamed before command at f ≡ true) × (is_sparse_stream (parts_at new f DATA []) ≡ true) × (flag_of 0x200 new f ≡ 0x200))
-  pub holed : edits_unnamed before command at f ≡ true → has_hole (parts_at new f DATA []) ≡ true → has_hole (parts_at old f DATA []) ≡ false
+  pub holed : edits_unnamed before command at f ≡ true → has_hole (parts_at new f DATA []) ≡ true
+      → has_hole (parts_at old f DATA []) ≡ false
       → flag_of 0x200 new f ≡ 0x200
 
 -- THE MAIN FILE'S NUMBERS: it is a directory as it was, and counts other names only where the command changes them.
@@ -121,8 +122,8 @@ pub record IsNewName (directory : Bool) (value : List ℕ) : Type 0 where
   pub flags : other_flags (u32_at value 0x38) ≡ directory_flag directory
   pub last : u32_at value 0x3C ≡ 0
 
--- A NAME THAT IS MOVED has all fields of the one that it replaces, but for its directory, its units and namespace, and that it says whether the
--- file is a directory.
+-- A NAME THAT IS MOVED has all fields of the one that it replaces, but for its directory, its units and namespace, and that it says whether
+-- the file is a directory.
 pub record IsMovedName (directory : Bool) (was now : List ℕ) : Type 0 where
   pub long : length now ≡ 0x42 + 2 * slice_index now 0x40
   pub times : (k : ℕ) → 0x08 ≤ k → k < 0x38 → slice_index now k ≡ slice_index was k
@@ -135,7 +136,8 @@ abbrev pub is_name_at : Located → ℕ → Told → Bool
 is_name_at at f name = option_map_or (is_link (link_told f name)) at.link false
 
 abbrev pub IsRightName : VolumeView → Command → Located → ℕ → Bool → Told → Type 0
-IsRightName old (c.Mv path new) at f directory name = (replaced : Told) → Contains (told_names old f) replaced → is_name_at at f replaced ≡ true
+IsRightName old (c.Mv path new) at f directory name = (replaced : Told) → Contains (told_names old f) replaced
+    → is_name_at at f replaced ≡ true
     → IsMovedName directory (unwrap_or replaced.value []) (unwrap_or name.value [])
 IsRightName old other at f directory name = IsNewName directory (unwrap_or name.value [])
 
@@ -144,14 +146,16 @@ abbrev pub has_link_told : List Told → ℕ → Told → Bool
 has_link_told names f name = list_any (λ other. is_link (link_told f name) (link_told f other)) names
 
 -- Each name of the file that came. `gone` are the links that were dropped: a name of one of these came anew.
-pub record ComesRightly (old new : VolumeView) (command : Command) (at : Located) (gone : List Link) (f : ℕ) (directory : Bool) : Type 0 where
+pub record ComesRightly (old new : VolumeView) (command : Command) (at : Located) (gone : List Link) (f : ℕ)
+    (directory : Bool) : Type 0 where
   pub each : (name : Told) → Contains (told_names new f) name
       → (has_link_told (told_names old f) f name && not (list_any (is_link (link_told f name)) gone)) ≡ false
       → (name.flags ≡ 0) × IsRightName old command at f directory name
 
 -- the value of a directory's root
 abbrev pub root_of : VolumeView → ℕ → List ℕ
-root_of view f = unwrap_or (option_and_then (λ part. content_value part.content) (first_part (parts_at view f INDEX_ROOT (wide (codes "$I30"))))) []
+root_of view f =
+    unwrap_or (option_and_then (λ part. content_value part.content) (first_part (parts_at view f INDEX_ROOT (wide (codes "$I30"))))) []
 
 -- A new file: of its record no other flags than 1, in use, and 2, a directory; 72 bytes of $STANDARD_INFORMATION, zero where the tree shows
 -- nothing; no other attributes; and the root of a directory says how many clusters an index record has.
@@ -205,12 +209,14 @@ pub record IsPointValue (tag : ℕ) (bytes value : List ℕ) : Type 0 where
 
 abbrev pub HasPoint : VolumeView → Command → ℕ → Type 0
 HasPoint view (c.Mkreparse path tag bytes) f =
-    (flags_of (first_part (parts_at view f REPARSE_POINT [])) ≡ 0) × IsPointValue tag bytes (value_on view (parts_at view f REPARSE_POINT []))
+    (flags_of (first_part (parts_at view f REPARSE_POINT [])) ≡ 0)
+    × IsPointValue tag bytes (value_on view (parts_at view f REPARSE_POINT []))
 HasPoint view other f = ⊤
 
 -- ALL OF IT
 pub record KeepsNodes (old new : VolumeView) (before next : Tree) (command : Command) (at : Located) (made : ℕ) : Type 0 where
-  pub dos_flags : (f : ℕ) → is_some (node_of before f) ≡ true → is_some (node_of next f) ≡ true → KeepsDosFlags old new before command at made f
+  pub dos_flags : (f : ℕ) → is_some (node_of before f) ≡ true → is_some (node_of next f) ≡ true
+      → KeepsDosFlags old new before command at made f
   pub main : (was now : Numbers) → numbers_at (records_of old) (main_file command at made) ≡ Some was
       → numbers_at (records_of new) (main_file command at made) ≡ Some now → KeepsMain command was now
   pub fresh : makes_file command ≡ true → IsNewFile new (makes_directory command) made

@@ -34,7 +34,8 @@ goes_by tree command at f = (f == at.file) && removes_file tree command at
 pub record CallsOf (before next : State) (command : Command) (at : Located) (made : ℕ) : Type 0 where
   -- what the calls name: no more than the command may change, and neither the log nor the dirty flag
   pub changed : Key → Bool
-  pub inside : (key : Key) → is_changed_key before.view before.machine.tree next.machine.tree command at made key ≡ false → changed key ≡ false
+  pub inside : (key : Key) → is_changed_key before.view before.machine.tree next.machine.tree command at made key ≡ false
+      → changed key ≡ false
   pub no_log : changed (key_of LOG_FILE DATA []) ≡ false
   pub no_mark : changed (key_of VOLUME VOLUME_INFORMATION []) ≡ false
   -- the plan of the bill: the clusters' size, and the files that the bill touches, each once
@@ -43,7 +44,8 @@ pub record CallsOf (before next : State) (command : Command) (at : Located) (mad
   pub size : plan.size ≡ cluster_bytes before.view.layout
   pub large : 0 < plan.size
   pub apart : AreDistinct plan.files
-  pub planned : IsPlanned plan (room_of before.view plan) (wants_of plan (bill_of before.view before.machine.tree command at) (goes_by before.machine.tree command at) units)
+  pub planned : IsPlanned plan (room_of before.view plan)
+      (wants_of plan (bill_of before.view before.machine.tree command at) (goes_by before.machine.tree command at) units)
   pub touched : AreTouched plan (room_of before.view plan) plan.files (bill_of before.view before.machine.tree command at).touched
   -- the bill, and the table of records, are not too large
   pub few : records_for before.view before.machine.tree command at ≤ 4096
@@ -53,7 +55,9 @@ pub record CallsOf (before next : State) (command : Command) (at : Located) (mad
   pub now : Marks
   pub start : IsEditable before.view was
   pub staged : VolumeView
-  pub edited : Edited changed (wants_of plan (bill_of before.view before.machine.tree command at) (goes_by before.machine.tree command at) units) before.view staged was now
+  pub edited : Edited changed
+      (wants_of plan (bill_of before.view before.machine.tree command at) (goes_by before.machine.tree command at) units)
+      before.view staged was now
   pub marked : IsMarkedFrom staged next.view
 
 -- what each command shows of itself

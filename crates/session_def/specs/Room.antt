@@ -15,7 +15,8 @@ use Rattle.session_def.specs.Cost.{log_bytes, log_parts}
 
 -- THE LOG from the end of the sectors that are emptied: as it was
 abbrev pub KeepsLogEnd : VolumeView → VolumeView → Type 0
-KeepsLogEnd old new = (i cluster : ℕ) → (log_bytes old + 511) / 512 * 512 ≤ i → spot_at (log_parts old) (i / cluster_bytes old.layout) ≡ At cluster
+KeepsLogEnd old new = (i cluster : ℕ) → (log_bytes old + 511) / 512 * 512 ≤ i
+    → spot_at (log_parts old) (i / cluster_bytes old.layout) ≡ At cluster
     → slice_index (new.cluster cluster) (i % cluster_bytes old.layout) ≡ slice_index (old.cluster cluster) (i % cluster_bytes old.layout)
 
 -- RECORDS of files that are not changed are not written, but for those of the table of records, the version and the cluster bitmap.

@@ -1,5 +1,6 @@
 -- A run of sessions over an image: what its lines say, their replies, and where the run stands after each.
-use Rattle.std.specs.Prelude.{MatchBool, ◌≡◌, ◌⊎◌, ◌+◌, if◌then◌else◌, ℕ, Bool, true, false, List, [], ◌∷◌, map, Option, Some, Result, Ok, Err}
+use Rattle.std.specs.Prelude.{MatchBool, ◌≡◌, ◌⊎◌, ◌+◌, if◌then◌else◌, ℕ, Bool, true, false, List, [], ◌∷◌, map, Option, Some}
+use Rattle.std.specs.Prelude.{Result, Ok, Err}
 use Rattle.std.specs.List.{list_any}
 use Rattle.tree_model.specs.Facts.{TellsFacts}
 use Rattle.tree_model.specs.Refusals.{Facts, is_edit, outcome}

@@ -1,5 +1,6 @@
 -- What a step makes of one stream.
-use Rattle.std.proofs.Common.{◌≡◌, ◌==◌, ◌&&◌, ℕ, Bool, true, false, cond, List, [], ◌∷◌, Option, Some, None, Ok, Err, not, refl, sym, ap, subst, ◌∙◌, option_map, find}
+use Rattle.std.proofs.Common.{◌≡◌, ◌==◌, ◌&&◌, ℕ, Bool, true, false, cond, List, [], ◌∷◌, Option, Some, None, Ok, Err, not, refl, sym, ap}
+use Rattle.std.proofs.Common.{subst, ◌∙◌, option_map, find}
 use Rattle.std.specs.Prelude.{IsTrue, is_some}
 use Rattle.std.proofs.lemmas.Bool.{and_parts, eqb-true}
 use Rattle.std.proofs.lemmas.Slice.Eq.{bytes_eq-Decides}
@@ -10,7 +11,8 @@ use Rattle.std.specs.Str.{bytes_eq}
 use Rattle.list_laws.proofs.OrderLaws.{key_is}
 use Rattle.tree_model.specs.Answers.{answer_of, bytes_at, range_of}
 use Rattle.tree_model.specs.Drops.{is_last_name}
-use Rattle.tree_model.specs.Effects.{add_link, add_name, changed, changed_node, drop_link, drop_name, drop_stream, empty_stream, leave_file, link_to, make, makes_file, move_name, new_node, put_stream, security_of, stamp, tree_after}
+use Rattle.tree_model.specs.Effects.{add_link, add_name, changed, changed_node, drop_link, drop_name, drop_stream, empty_stream, leave_file}
+use Rattle.tree_model.specs.Effects.{link_to, make, makes_file, move_name, new_node, put_stream, security_of, stamp, tree_after}
 use Rattle.tree_model.specs.Opens.{contains, is_handle}
 use Rattle.tree_model.specs.Paths.{resolve}
 use Rattle.tree_model.specs.Refusals.{Facts, outcome}
@@ -18,7 +20,8 @@ use Rattle.session_def.specs.Session.{Said, Session, Steps, Turn, last_of}
 use Rattle.session_def.specs.State.{State}
 use Rattle.tree_model.specs.Step.{Leads, Step}
 use Rattle.tree_model.specs.Streams.{punched, resized, written}
-use Rattle.tree_model.specs.Subjects.{Located, Machine, NameIn, NewName, NoName, RootPath, StreamAt, Through, at_file, at_found, at_open, content_named, locate, locate_path, with_stream}
+use Rattle.tree_model.specs.Subjects.{Located, Machine, NameIn, NewName, NoName, RootPath, StreamAt, Through, at_file, at_found, at_open}
+use Rattle.tree_model.specs.Subjects.{content_named, locate, locate_path, with_stream}
 use Rattle.tree_model.specs.Tree.{Tree, node_of}
 use Rattle.tree_model.specs.declared.command.Command.{Command}
 use Rattle.tree_model.specs.declared.command.Command.TheVariants as c
@@ -32,7 +35,9 @@ use Rattle.tree_model.specs.declared.tree.Content.TheVariants.{Plain}
 use Rattle.tree_model.specs.declared.tree.Link.{Link}
 use Rattle.tree_model.specs.declared.tree.Node.{Node}
 use Rattle.tree_model.specs.declared.tree.Stream.{Stream}
-use Rattle.share_table.specs.Changes.{is_new, Change, Drops, Makes, Punches, Resizes, Writes, applied, bytes_in, change_led, change_of, change_said, changed_by, changes_in, content_at, content_in, folded, is_on, listed, on, own_name, stream_at, takes_file}
+use Rattle.share_table.specs.Changes.{is_new, Change, Drops, Makes, Punches, Resizes, Writes, applied, bytes_in, change_led, change_of}
+use Rattle.share_table.specs.Changes.{change_said, changed_by, changes_in, content_at, content_in, folded, is_on, listed, on}
+use Rattle.share_table.specs.Changes.{own_name, stream_at, takes_file}
 use Rattle.share_table.proofs.StepParts.{Allowed, allowed, ok-same, went-on}
 use Rattle.share_table.proofs.StreamLaws.{drop-content, put-content, sought-content}
 
@@ -54,9 +59,11 @@ changed-node at change tree file = by (node_of tree at) refl (file == at) refl
         ∙ ap (λ b. cond b (Some (change node)) (node_of tree file)) (key_is file at ∙ s)
 
 -- a change of a file that leaves its streams
-changed-keeps : (at : ℕ) (change : Node → Node) (tree : Tree) (file : ℕ) (name : List ℕ) → ((node : Node) → (change node).streams ≡ node.streams)
+changed-keeps : (at : ℕ) (change : Node → Node) (tree : Tree) (file : ℕ) (name : List ℕ)
+    → ((node : Node) → (change node).streams ≡ node.streams)
     → stream_at (changed at change tree) file name ≡ stream_at tree file name
-changed-keeps at change tree file name keeps = ap (λ o. content_in o name) (changed-node at change tree file) ∙ by (file == at) (node_of tree file)
+changed-keeps at change tree file name keeps =
+    ap (λ o. content_in o name) (changed-node at change tree file) ∙ by (file == at) (node_of tree file)
   where
     by : (b : Bool) (o : Option Node) → content_in (cond b (option_map change o) o) name ≡ content_in o name
     by true None = refl
@@ -72,7 +79,8 @@ changed-on change tree at file name new makes =
     ap (λ o. content_in o name) (changed-node at.file change tree file) ∙ by (file == at.file) refl (node_of tree file) refl
   where
     by : (b : Bool) → (file == at.file) ≡ b → (o : Option Node) → node_of tree file ≡ o
-        → content_in (cond b (option_map change o) o) name ≡ cond (b && is_some o && bytes_eq (own_name tree at) name) new (content_in o name)
+        → content_in (cond b (option_map change o) o) name
+        ≡ cond (b && is_some o && bytes_eq (own_name tree at) name) new (content_in o name)
     by true s None e = refl
     by true s (Some node) e = makes node (sym (ap (node_of tree) (eqb-true file at.file s)) ∙ e)
     by false s o e = refl
@@ -94,15 +102,18 @@ Shows tree at = at.content ≡ stream_at tree at.file (own_name tree at)
 own-content : (tree : Tree) (at : Located) → content_named tree at.stream (node_of tree at.file) ≡ stream_at tree at.file (own_name tree at)
 own-content tree at = by (node_of tree at.file) refl
   where
-    by : (o : Option Node) → node_of tree at.file ≡ o → content_named tree at.stream (node_of tree at.file) ≡ stream_at tree at.file (own_name tree at)
+    by : (o : Option Node) → node_of tree at.file ≡ o
+        → content_named tree at.stream (node_of tree at.file) ≡ stream_at tree at.file (own_name tree at)
     by None e = rw e refl
     by (Some node) e = rw e (sought-content tree.fold node.streams at.stream)
 
 -- a stream that is written anew from what it held
 written-at : (now : ℕ) (tree : Tree) (at : Located) (change : Change) (makes : List ℕ → List ℕ) (file : ℕ) (name : List ℕ)
     → ((old : Option Content) → changed_by change old ≡ Some (Plain (makes (bytes_in old)))) → Shows tree at
-    → stream_at (put_stream now at (makes (bytes_at at)) tree) file name ≡ applied (on (is_on tree at file name) change) (stream_at tree file name)
-written-at now tree at change makes file name same shows = put-at now tree at (makes (bytes_at at)) file name ∙ by (is_on tree at file name) refl
+    → stream_at (put_stream now at (makes (bytes_at at)) tree) file name
+    ≡ applied (on (is_on tree at file name) change) (stream_at tree file name)
+written-at now tree at change makes file name same shows =
+    put-at now tree at (makes (bytes_at at)) file name ∙ by (is_on tree at file name) refl
   where
     by : (b : Bool) → is_on tree at file name ≡ b → cond b (Some (Plain (makes (bytes_at at)))) (stream_at tree file name)
         ≡ applied (on b change) (stream_at tree file name)
@@ -111,7 +122,8 @@ written-at now tree at change makes file name same shows = put-at now tree at (m
         let w = and_parts ((file == at.file) && is_some (node_of tree file)) (bytes_eq (own_name tree at) name) s in
         let f = eqb-true file at.file (and_parts (file == at.file) (is_some (node_of tree file)) w.0).0 in
         let n = (bytes_eq-Decides (own_name tree at) name).0 w.1 in
-        let held : at.content ≡ stream_at tree file name = shows ∙ ap (λ f. stream_at tree f (own_name tree at)) (sym f) ∙ ap (stream_at tree file) n in
+        let held : at.content ≡ stream_at tree file name =
+        shows ∙ ap (λ f. stream_at tree f (own_name tree at)) (sym f) ∙ ap (stream_at tree file) n in
         ap (λ content. Some (Plain (makes (bytes_in content)))) held ∙ sym (same (stream_at tree file name))
 
 dropped-at : (now : ℕ) (tree : Tree) (at : Located) (file : ℕ) (name : List ℕ)
@@ -127,7 +139,8 @@ leave-at : (now : ℕ) (link : Option Link) (tree : Tree) (file : ℕ) (name : L
     → stream_at (drop_name now link tree) file name ≡ applied (on (takes_file tree link file) Drops) (stream_at tree file name)
 leave-at now None tree file name = refl
 leave-at now (Some link) tree file name =
-    changed-keeps link.parent _ (leave_file now link tree) file name (λ node. refl) ∙ by (is_last_name tree link) refl (file == link.child) refl
+    changed-keeps link.parent _ (leave_file now link tree) file name (λ node. refl)
+    ∙ by (is_last_name tree link) refl (file == link.child) refl
   where
     by : (b : Bool) → is_last_name tree link ≡ b → (d : Bool) → (file == link.child) ≡ d
         → stream_at (leave_file now link tree) file name ≡ applied (on (b && d) Drops) (stream_at tree file name)
@@ -139,14 +152,16 @@ leave-at now (Some link) tree file name =
         ∙ ap (λ b. cond b None (node_of tree file)) (key_is file link.child ∙ t)))
     by false s d t = rw s (changed-keeps link.child _ (drop_link link tree) file name (λ node. refl))
 
-add-at : (now file : ℕ) (new : NewName) (tree : Tree) (f : ℕ) (name : List ℕ) → stream_at (add_name now file new tree) f name ≡ stream_at tree f name
+add-at : (now file : ℕ) (new : NewName) (tree : Tree) (f : ℕ) (name : List ℕ)
+    → stream_at (add_name now file new tree) f name ≡ stream_at tree f name
 add-at now file NoName tree f name = refl
 add-at now file RootPath tree f name = refl
 add-at now file (NameIn dir units) tree f name =
     changed-keeps dir _ (stamp now file (add_link (link_to file dir units) tree)) f name (λ node. refl)
     ∙ changed-keeps file _ (add_link (link_to file dir units) tree) f name (λ node. refl)
 
-move-at : (now : ℕ) (link : Option Link) (tree : Tree) (f : ℕ) (name : List ℕ) → stream_at (move_name now link tree) f name ≡ stream_at tree f name
+move-at : (now : ℕ) (link : Option Link) (tree : Tree) (f : ℕ) (name : List ℕ)
+    → stream_at (move_name now link tree) f name ≡ stream_at tree f name
 move-at now None tree f name = refl
 move-at now (Some link) tree f name = changed-keeps link.parent _ (drop_link link tree) f name (λ node. refl)
 
@@ -175,7 +190,8 @@ made-at dir now made (NameIn parent units) tree file name none =
         ap (λ b. content_in (cond b (Some (new_node false now (security_of tree parent))) (node_of tree file)) name) (key_is file made ∙ s)
         ∙ ap (λ b. option_map (λ (stream : Stream). stream.content) (cond b (Some empty_stream) None)) e
         ∙ sym (ap (λ o. content_in o name) (ap (node_of tree) (eqb-true file made s) ∙ none))
-    by false s t e dir = ap (λ b. content_in (cond b (Some (new_node dir now (security_of tree parent))) (node_of tree file)) name) (key_is file made ∙ s)
+    by false s t e dir = ap (λ b. content_in (cond b (Some (new_node dir now (security_of tree parent))) (node_of tree file)) name)
+        (key_is file made ∙ s)
 
 -- the content that the words of a command on a stream lead to
 stream-shows : (m : Machine) (session : ℕ) (path : List (List ℕ)) (name : List ℕ) (at : Located)
@@ -188,7 +204,8 @@ stream-shows m session path name at located =
     let here : with_stream m.tree name (at_found m.tree found.0) ≡ at = ap (with_stream m.tree name) place ∙ ok-same _ at walked.2 in
     subst (Shows m.tree) here (own-content m.tree (with_stream m.tree name (at_found m.tree found.0)))
 
-open-shows : (m : Machine) (session handle : ℕ) (asked : Access) (at : Located) → locate m session (Through handle asked) ≡ Ok at → Shows m.tree at
+open-shows : (m : Machine) (session handle : ℕ) (asked : Access) (at : Located)
+    → locate m session (Through handle asked) ≡ Ok at → Shows m.tree at
 unfolding locate
 open-shows m session handle asked at located =
     by (find (λ (entry : OpenEntry). is_handle session handle entry && contains entry.access asked) m.opens) located
@@ -208,16 +225,19 @@ stream-after : (m : Machine) (session : ℕ) (command : Command) (at : Located) 
     → stream_at (tree_after m command at made) file name ≡ applied (change_of m command at made file name) (stream_at m.tree file name)
 unfolding tree_after
 stream-after m session (c.Create path) at made file name may none = made-at false m.now made at.new m.tree file name (none refl)
-stream-after m session (c.Mkdir path) at made file name may none = made-at true m.now made at.new m.tree file name (none refl) ∙ never (is_new at.new && (file == made)) Makes _
+stream-after m session (c.Mkdir path) at made file name may none =
+    made-at true m.now made at.new m.tree file name (none refl) ∙ never (is_new at.new && (file == made)) Makes _
 stream-after m session (c.Rm path) at made file name may none = leave-at m.now at.link m.tree file name
 stream-after m session (c.Rmdir path) at made file name may none = leave-at m.now at.link m.tree file name
 stream-after m session (c.Ln old new) at made file name may none = add-at m.now at.file at.new m.tree file name
 stream-after m session (c.Mv old new) at made file name may none =
     add-at m.now at.file at.new (move_name m.now at.link m.tree) file name ∙ move-at m.now at.link m.tree file name
 stream-after m session (c.Write path stream from bytes) at made file name may none =
-    written-at m.now m.tree at (Writes from bytes) (written from bytes) file name (λ old. refl) (stream-shows m session path _ at may.located)
+    written-at m.now m.tree at (Writes from bytes) (written from bytes) file name (λ old. refl)
+    (stream-shows m session path _ at may.located)
 stream-after m session (c.Hwrite handle from bytes) at made file name may none =
-    written-at m.now m.tree at (Writes from bytes) (written from bytes) file name (λ old. refl) (open-shows m session handle _ at may.located)
+    written-at m.now m.tree at (Writes from bytes) (written from bytes) file name (λ old. refl)
+    (open-shows m session handle _ at may.located)
 stream-after m session (c.Truncate path stream size) at made file name may none =
     written-at m.now m.tree at (Resizes size) (resized size) file name (λ old. refl) (stream-shows m session path _ at may.located)
 stream-after m session (c.Punch path stream from len) at made file name may none =
@@ -231,11 +251,13 @@ stream-after m session other at made file name may none = refl
 
 pub stream-step : (facts : Facts) (m : Machine) (session : ℕ) (command : Command) (given : Reply) (next : Machine)
     → (step : Step facts m session command given next) → (file : ℕ) (name : List ℕ)
-    → stream_at next.tree file name ≡ applied (change_led facts m session command given next step.moved file name) (stream_at m.tree file name)
+    → stream_at next.tree file name ≡ applied (change_led facts m session command given next step.moved file name)
+    (stream_at m.tree file name)
 stream-step facts m session command given next step file name = by given step.moved
   where
     by : (given : Reply) → (leads : Leads facts m session command given next)
-        → stream_at next.tree file name ≡ applied (change_led facts m session command given next leads file name) (stream_at m.tree file name)
+        → stream_at next.tree file name ≡ applied (change_led facts m session command given next leads file name)
+        (stream_at m.tree file name)
     by (reply.Ok answer) moves =
         ap (λ (n : Machine). stream_at n.tree file name) moves.moved
         ∙ stream-after m session command moves.at moves.file file name (allowed facts m session command moves.at moves.found)

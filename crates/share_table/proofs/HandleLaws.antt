@@ -1,6 +1,6 @@
 -- The handle that an open gets: the least that the session does not have.
-use Rattle.std.proofs.Common.{◌≡◌, ◌⊎◌, ◌<◌, ◌≤◌, ◌+◌, ◌-◌, ◌==◌, ◌&&◌, ℕ, zero, suc, Bool, true, false, cond, List, [], ◌∷◌, nat_le, refl, sym, ap, ◌∙◌, arith, inl, inr, count_by}
-use Rattle.std.proofs.Common.{◌||◌}
+use Rattle.std.proofs.Common.{◌≡◌, ◌⊎◌, ◌<◌, ◌≤◌, ◌+◌, ◌-◌, ◌==◌, ◌&&◌, ℕ, zero, suc, Bool, true, false, cond, List, [], ◌∷◌, nat_le, refl}
+use Rattle.std.proofs.Common.{sym, ap, ◌∙◌, arith, inl, inr, count_by, ◌||◌}
 use Rattle.std.proofs.lemmas.Bool.{and_parts, and_right, eqb-true, le-leb, leb-true}
 use Rattle.std.proofs.lemmas.Bool.Decides.{leb_tells}
 use Rattle.std.proofs.lemmas.List.Sums.{sum_by-cons}
@@ -46,7 +46,8 @@ fewer p q within (e ∷ es) = by (fewer p q within es) (q e) (p e) refl refl
     by ih false true s t = omega (arith, ih, count-no q e es s, count-yes p e es t)
     by ih false false s t = omega (arith, ih, count-no q e es s, count-no p e es t)
 
-one-fewer : (p q r : OpenEntry → Bool) → ((e : OpenEntry) → q e ≡ true → p e ≡ true) → ((e : OpenEntry) → r e ≡ true → (p e ≡ true) × (q e ≡ false))
+one-fewer : (p q r : OpenEntry → Bool) → ((e : OpenEntry) → q e ≡ true → p e ≡ true)
+    → ((e : OpenEntry) → r e ≡ true → (p e ≡ true) × (q e ≡ false))
     → (es : List OpenEntry) → list_any r es ≡ true → count_by q es < count_by p es
 one-fewer p q r within there [] any = cc
 one-fewer p q r within there (e ∷ es) any = by (one-fewer p q r within there es) (r e) refl any
@@ -83,7 +84,8 @@ from-more session handle entry e =
 free-or-full : (steps : ℕ) (opens : List OpenEntry) (session handle : ℕ)
     → (list_any (is_handle session (free_from steps opens session handle)) opens ≡ false) ⊎ (steps ≤ count_by (from session handle) opens)
 free-or-full zero opens session handle = inr (omega arith)
-free-or-full (suc steps) opens session handle = by (free-or-full steps opens session (suc handle)) (list_any (is_handle session handle) opens) refl
+free-or-full (suc steps) opens session handle =
+    by (free-or-full steps opens session (suc handle)) (list_any (is_handle session handle) opens) refl
   where
     by : (list_any (is_handle session (free_from steps opens session (suc handle))) opens ≡ false)
         ⊎ (steps ≤ count_by (from session (suc handle)) opens) → (b : Bool) → list_any (is_handle session handle) opens ≡ b
@@ -109,5 +111,6 @@ free-is_free opens session few = by (free-or-full 64 opens session 0)
           arith,
           full,
           few,
-          fewer (λ entry. entry.session == session) (from session 0) (λ e h. (and_parts (e.session == session) (nat_le 0 e.handle) h).0) opens,
+          fewer (λ entry. entry.session == session) (from session 0)
+              (λ e h. (and_parts (e.session == session) (nat_le 0 e.handle) h).0) opens,
         ))

@@ -1,5 +1,6 @@
 -- What stays of opens that are kept where one more is added, or some go.
-use Rattle.std.proofs.Common.{Option, Some, option_map, ◌≡◌, ◌==◌, ◌&&◌, ℕ, Bool, true, false, List, [], not, find, filter, refl, sym, ap, ◌∙◌, None}
+use Rattle.std.proofs.Common.{Option, Some, option_map, ◌≡◌, ◌==◌, ◌&&◌, ℕ, Bool, true, false, List, [], not, find, filter, refl, sym}
+use Rattle.std.proofs.Common.{ap, ◌∙◌, None}
 use Rattle.std.proofs.lemmas.Bool.{and_parts, eq-eqb, eqb-true}
 use Rattle.std.proofs.lemmas.List.Elements.{All-weaker}
 use Rattle.std.proofs.lemmas.List.Kept.{AllPairs-filter}
@@ -41,13 +42,15 @@ fits-here new entry none same = by (are_compatible new.access new.share entry.ac
         → are_compatible new.access new.share entry.access entry.share ≡ true
     by true s = s
     by false s =
-        let here : conflicts (AsksFor new.access new.share) new.file entry ≡ true = both_true (eq-eqb entry.file new.file (sym same)) (ap not s) in
+        let here : conflicts (AsksFor new.access new.share) new.file entry ≡ true =
+        both_true (eq-eqb entry.file new.file (sym same)) (ap not s) in
         let both = sym none ∙ here in cc
 
 pub kept-none : AreKept []
 kept-none = record { fit = pairs-nil Fits; apart = pairs-nil IsApart }
 
-pub kept-more : (opens : List OpenEntry) (new : OpenEntry) → AreKept opens → find (conflicts (AsksFor new.access new.share) new.file) opens ≡ None
+pub kept-more : (opens : List OpenEntry) (new : OpenEntry) → AreKept opens
+    → find (conflicts (AsksFor new.access new.share) new.file) opens ≡ None
     → list_any (is_handle new.session new.handle) opens ≡ false → AreKept (put_in_order open_above new opens)
 kept-more opens new kept fits free = record {
   fit = pairs-put Fits open_above new opens (λ y. fits-turned new y)

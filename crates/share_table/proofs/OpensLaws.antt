@@ -1,5 +1,6 @@
 -- What a step leaves of the opens, and of the files and links that they stand on.
-use Rattle.std.proofs.Common.{◌≡◌, ◌≢◌, ◌⊎◌, ◌<◌, ◌==◌, ℕ, Bool, true, false, List, [], ◌∷◌, Option, Some, None, Ok, Err, find, not, nat_le, count_by, refl, sym, ap, subst, ◌∙◌, inl, inr, is_some, if◌then◌else◌}
+use Rattle.std.proofs.Common.{◌≡◌, ◌≢◌, ◌⊎◌, ◌<◌, ◌==◌, ℕ, Bool, true, false, List, [], ◌∷◌, Option, Some, None, Ok, Err, find, not, nat_le}
+use Rattle.std.proofs.Common.{count_by, refl, sym, ap, subst, ◌∙◌, inl, inr, is_some, if◌then◌else◌}
 use Rattle.std.specs.Prelude.{IfSome, IsSome, IsTrue}
 use Rattle.std.proofs.lemmas.Bool.{eq-eqb}
 use Rattle.std.proofs.lemmas.Bool.Decides.{leb_tells}
@@ -31,7 +32,8 @@ use Rattle.share_table.proofs.KeptLaws.{fits-here, kept-filter, kept-more, kept-
 use Rattle.share_table.proofs.LocateLaws.{IsOfLink, of-link}
 use Rattle.share_table.proofs.PairLaws.{All-put, none-found}
 use Rattle.share_table.proofs.StepParts.{Allowed, allowed, moved, ok-same, went-on}
-use Rattle.share_table.proofs.TreeLaws.{GoesWith, Stays, add_name-link, add_name-stays, changed-link, changed-stays, drop_name-link, drop_name-stays, make-link, make-stays, move_name-link, move_name-stays}
+use Rattle.share_table.proofs.TreeLaws.{GoesWith, Stays, add_name-link, add_name-stays, changed-link, changed-stays, drop_name-link}
+use Rattle.share_table.proofs.TreeLaws.{drop_name-stays, make-link, make-stays, move_name-link, move_name-stays}
 
 few-handles : (opens : List OpenEntry) (session n : ℕ) → nat_le n (count_by (λ (entry : OpenEntry). entry.session == session) opens) ≡ false
     → count_by (λ (entry : OpenEntry). entry.session == session) opens < n
@@ -53,7 +55,8 @@ kept-after m session other at may kept = kept
 no-open : (opens : List OpenEntry) (file : ℕ) (entry : OpenEntry) → find (conflicts AsksAlone file) opens ≡ None → Contains opens entry
     → entry.file ≢ file
 no-open opens file entry none has same =
-    let no_entry : (entry.file == file) ≡ false = All-contains (λ e. conflicts AsksAlone file e ≡ false) opens entry (none-found (conflicts AsksAlone file) opens none) has in
+    let no_entry : (entry.file == file) ≡ false =
+    All-contains (λ e. conflicts AsksAlone file e ≡ false) opens entry (none-found (conflicts AsksAlone file) opens none) has in
     let is_entry = eq-eqb entry.file file same in
     let both = sym no_entry ∙ is_entry in cc
 
@@ -84,7 +87,8 @@ file-after m session (c.Rmdir path) at file entry may has =
     drop_name-stays m.now at.link m.tree entry.file (alone-goes m at entry may.shares (of-link m session _ at may.located) has)
 file-after m session (c.Ln old new) at file entry may has = add_name-stays m.now at.file at.new m.tree entry.file
 file-after m session (c.Mv old new) at file entry may has =
-    λ is. add_name-stays m.now at.file at.new (move_name m.now at.link m.tree) entry.file (move_name-stays m.now at.link m.tree entry.file is)
+    λ is. add_name-stays m.now at.file at.new (move_name m.now at.link m.tree) entry.file
+    (move_name-stays m.now at.link m.tree entry.file is)
 file-after m session (c.Write path stream from bytes) at file entry may has = changed-stays at.file _ m.tree entry.file
 file-after m session (c.Hwrite handle from bytes) at file entry may has = changed-stays at.file _ m.tree entry.file
 file-after m session (c.Truncate path stream size) at file entry may has = changed-stays at.file _ m.tree entry.file
@@ -109,7 +113,8 @@ opened-there m session path stream access share at may =
     subst (λ (at : Located). not (is_some at.content) ≡ false → IsSome (node_of m.tree at.file)) here
     (there (found_file found.0) (node_of m.tree (found_file found.0)) refl) may.stream
   where
-    there : (f : ℕ) (o : Option Node) → node_of m.tree f ≡ o → not (is_some (content_named m.tree (stream_name stream) o)) ≡ false → IsSome o
+    there : (f : ℕ) (o : Option Node) → node_of m.tree f ≡ o
+        → not (is_some (content_named m.tree (stream_name stream) o)) ≡ false → IsSome o
     there f None e none = cc
     there f (Some node) e none = refl
 
@@ -117,7 +122,9 @@ nodes-after : (m : Machine) (session : ℕ) (command : Command) (at : Located) (
     → All (λ (entry : OpenEntry). IsSome (node_of m.tree entry.file)) m.opens
     → All (λ (entry : OpenEntry). IsSome (node_of (tree_after m command at file) entry.file)) m.opens
 nodes-after m session command at file may nodes =
-    All-from_Contains _ m.opens (λ entry has. file-after m session command at file entry may has (All-contains (λ (e : OpenEntry). IsSome (node_of m.tree e.file)) m.opens entry nodes has))
+    All-from_Contains _ m.opens (λ entry has.
+    file-after m session command at file entry may has
+    (All-contains (λ (e : OpenEntry). IsSome (node_of m.tree e.file)) m.opens entry nodes has))
 
 held-after : (m : Machine) (session : ℕ) (command : Command) (at : Located) (file : ℕ) → Allowed m session command at
     → All (λ (entry : OpenEntry). IsSome (node_of m.tree entry.file)) m.opens
@@ -148,7 +155,8 @@ held-none m none = record {
   nodes = subst (λ opens. All (λ (entry : OpenEntry). IsSome (node_of m.tree entry.file)) opens) (sym none) (All-nil _);
 }
 
-held-said : (facts : Facts) (m : Machine) (said : Said) (given : Reply) (next : Machine) → HoldsOpens m → Steps facts m said given next → HoldsOpens next
+held-said : (facts : Facts) (m : Machine) (said : Said) (given : Reply) (next : Machine) → HoldsOpens m
+    → Steps facts m said given next → HoldsOpens next
 held-said facts m (Ok said) given next held x = held-step facts m said.0 said.1 given next held x
 held-said facts m (Err fault) given next held x = subst HoldsOpens (sym x.1) held
 
@@ -161,7 +169,8 @@ held-session Says before (turn ∷ turns) held x =
     All-cons (λ (turn : Turn). HoldsOpens turn.next.machine) turn turns here (held-session Says turn.next turns here x.1)
 
 pub file-step : (facts : Facts) (m : Machine) (session : ℕ) (command : Command) (given : Reply) (next : Machine) (entry : OpenEntry)
-    → Step facts m session command given next → Contains m.opens entry → IsSome (node_of m.tree entry.file) → IsSome (node_of next.tree entry.file)
+    → Step facts m session command given next → Contains m.opens entry → IsSome (node_of m.tree entry.file)
+    → IsSome (node_of next.tree entry.file)
 file-step facts m session command given next entry x has is = elim (moved facts m session command given next x) [
   | inl same ↦ subst (λ (n : Machine). IsSome (node_of n.tree entry.file)) (sym same) is
   | inr moves ↦
@@ -193,11 +202,14 @@ goes-file at file is goes = by at.link is goes
 lets-delete : (opens : List OpenEntry) (file : ℕ) (asks : Asks) → ((asks ≡ AsksAlone) ⊎ (asks ≡ AsksFor to_delete all_access))
     → find (conflicts asks file) opens ≡ None → LetDelete opens file
 lets-delete opens file asks (inl alone) none =
-    All-from_Contains (λ (entry : OpenEntry). entry.file ≡ file → IsTrue entry.share.d) opens (λ entry has same. absurd (no-open opens file entry (subst (λ asks. find (conflicts asks file) opens ≡ None) alone none) has same))
+    All-from_Contains (λ (entry : OpenEntry). entry.file ≡ file → IsTrue entry.share.d) opens
+    (λ entry has same. absurd (no-open opens file entry (subst (λ asks. find (conflicts asks file) opens ≡ None) alone none) has same))
 lets-delete opens file asks (inr to) none =
-    let free = none-found (conflicts (AsksFor to_delete all_access) file) opens (subst (λ asks. find (conflicts asks file) opens ≡ None) to none) in
+    let free = none-found (conflicts (AsksFor to_delete all_access) file) opens
+    (subst (λ asks. find (conflicts asks file) opens ≡ None) to none) in
     All-from_Contains (λ (entry : OpenEntry). entry.file ≡ file → IsTrue entry.share.d) opens (λ entry has same.
-    compatible-deletes entry (fits-here (asker file) entry (All-contains (λ e. conflicts (AsksFor to_delete all_access) file e ≡ false) opens entry free has) (sym same)))
+    compatible-deletes entry (fits-here (asker file) entry
+    (All-contains (λ e. conflicts (AsksFor to_delete all_access) file e ≡ false) opens entry free has) (sym same)))
 
 removal : (m : Machine) (path : List (List ℕ)) (at : Located)
     → (asks_of m.tree (c.Rm path) at ≡ AsksAlone) ⊎ (asks_of m.tree (c.Rm path) at ≡ AsksFor to_delete all_access)

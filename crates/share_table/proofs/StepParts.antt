@@ -1,5 +1,6 @@
 -- What a step that was done tells: what its words led to, and that nothing refused it.
-use Rattle.std.proofs.Common.{zero, suc, get_or, subst, ◌≡◌, ◌⊎◌, ℕ, Bool, true, false, List, [], ◌∷◌, Option, Some, None, Result, Ok, Err, find, refl, inl, inr, option_map}
+use Rattle.std.proofs.Common.{zero, suc, get_or, subst, ◌≡◌, ◌⊎◌, ℕ, Bool, true, false, List, [], ◌∷◌, Option, Some, None, Result, Ok, Err}
+use Rattle.std.proofs.Common.{find, refl, inl, inr, option_map}
 use Rattle.std.specs.Option.{option_or}
 use Rattle.tree_model.specs.Cases.{asks_of, conflicts, no_stream, too_many_handles}
 use Rattle.tree_model.specs.Paths.{and_then}
@@ -57,7 +58,8 @@ passed facts m session command at located e =
       located = located;
       stream = not-when (no_stream command (subject_of command) at) no.NoStream (none 3);
       handles = not-when (too_many_handles m.opens session command) no.TooManyHandles (none 13);
-      shares = unmapped (λ entry. no.Shared entry.session entry.handle) (find (conflicts (asks_of m.tree command at) at.file) m.opens) (none 14);
+      shares = unmapped (λ entry. no.Shared entry.session entry.handle)
+          (find (conflicts (asks_of m.tree command at) at.file) m.opens) (none 14);
     }
 
 pub allowed : (facts : Facts) (m : Machine) (session : ℕ) (command : Command) (at : Located) → outcome facts m session command ≡ Ok at
@@ -65,7 +67,8 @@ pub allowed : (facts : Facts) (m : Machine) (session : ℕ) (command : Command) 
 unfolding outcome
 allowed facts m session command at e = by (is_built command) refl
   where
-    here : and_then (locate m session (subject_of command)) (λ at. unless (refusal facts m session command (subject_of command) at) at) ≡ Ok at
+    here : and_then (locate m session (subject_of command))
+        (λ at. unless (refusal facts m session command (subject_of command) at) at) ≡ Ok at
         → Allowed m session command at
     here e =
         let w = went-on (locate m session (subject_of command)) _ at e in

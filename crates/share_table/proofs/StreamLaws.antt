@@ -1,5 +1,6 @@
 -- One stream of a file among others that are written or dropped.
-use Rattle.std.proofs.Common.{◌≡◌, ℕ, Bool, true, false, cond, List, [], ◌∷◌, Option, Some, None, find, filter, map, not, refl, sym, ap, subst, ◌∙◌, option_map}
+use Rattle.std.proofs.Common.{◌≡◌, ℕ, Bool, true, false, cond, List, [], ◌∷◌, Option, Some, None, find, filter, map, not, refl, sym, ap}
+use Rattle.std.proofs.Common.{subst, ◌∙◌, option_map}
 use Rattle.std.proofs.lemmas.Slice.Eq.{bytes_eq-Decides}
 use Rattle.std.specs.Option.{option_map_or, option_or}
 use Rattle.std.specs.Str.{bytes_eq}
@@ -72,7 +73,8 @@ find-filter : {A : Type 0} (p q : A → Bool) (xs : List A) → ((x : A) → p x
 find-filter p q [] within = refl
 find-filter {A = A} p q (x ∷ xs) within = by (find-filter p q xs within) (p x) (q x) refl refl
   where
-    by : find p (filter q xs) ≡ find p xs → (a b : Bool) → p x ≡ a → q x ≡ b → find p (cond b (x ∷ filter q xs) (filter q xs)) ≡ find p (x ∷ xs)
+    by : find p (filter q xs) ≡ find p xs → (a b : Bool) → p x ≡ a → q x ≡ b
+        → find p (cond b (x ∷ filter q xs) (filter q xs)) ≡ find p (x ∷ xs)
     by ih true true s t = rw s refl
     by ih true false s t = let both = sym t ∙ within x s in cc
     by ih false true s t = rw s ih
@@ -93,7 +95,8 @@ sought-own : (fold : ℕ → ℕ) (streams : List Stream) (name : List ℕ) (str
 sought-own fold streams name stream e = by (find (has_name name) streams) refl e
   where
     by : (o : Option Stream) → find (has_name name) streams ≡ o
-        → option_or o (find (λ (s : Stream). are_same fold s.name name) streams) ≡ Some stream → find (has_name stream.name) streams ≡ Some stream
+        → option_or o (find (λ (s : Stream). are_same fold s.name name) streams) ≡ Some stream
+        → find (has_name stream.name) streams ≡ Some stream
     by (Some other) f e =
         let same : other ≡ stream = cc in
         let here = f ∙ ap Some same in
@@ -104,10 +107,12 @@ sought-own fold streams name stream e = by (find (has_name name) streams) refl e
         found-closer (has_name stream.name) (λ (s : Stream). are_same fold s.name name) streams stream
         (λ y h. ap (λ n. are_same fold n name) (same-name y.name stream.name h) ∙ alike) e (named stream.name stream.name refl)
 
-sought-none : (fold : ℕ → ℕ) (streams : List Stream) (name : List ℕ) → sought_stream fold streams name ≡ None → find (has_name name) streams ≡ None
+sought-none : (fold : ℕ → ℕ) (streams : List Stream) (name : List ℕ) → sought_stream fold streams name ≡ None
+    → find (has_name name) streams ≡ None
 sought-none fold streams name e = by (find (has_name name) streams) refl e
   where
-    by : (o : Option Stream) → find (has_name name) streams ≡ o → option_or o (find (λ (s : Stream). are_same fold s.name name) streams) ≡ None
+    by : (o : Option Stream) → find (has_name name) streams ≡ o
+        → option_or o (find (λ (s : Stream). are_same fold s.name name) streams) ≡ None
         → find (has_name name) streams ≡ None
     by None f e = f
     by (Some other) f e = cc
@@ -158,12 +163,14 @@ put-content fold streams name bytes other = by (sought_stream fold streams name)
         (find-put-here (has_name other) (stream_above fold) (made name bytes) streams s
         (subst (λ n. find (has_name n) streams ≡ None) (same-name name other s) (sought-none fold streams name e)))
     new e false s =
-        ap (option_map (λ (stream : Stream). stream.content)) (find-put-other (has_name other) (stream_above fold) (made name bytes) streams s)
+        ap (option_map (λ (stream : Stream). stream.content))
+        (find-put-other (has_name other) (stream_above fold) (made name bytes) streams s)
 
     set : (stream : Stream) → content_at (map (set_content stream bytes) streams) other
         ≡ option_map (λ (stream : Stream). stream.content) (option_map (set_content stream bytes) (find (has_name other) streams))
     set stream =
-        ap (option_map (λ (stream : Stream). stream.content)) (find-map (has_name other) (set_content stream bytes) streams (set-name stream bytes other))
+        ap (option_map (λ (stream : Stream). stream.content))
+        (find-map (has_name other) (set_content stream bytes) streams (set-name stream bytes other))
 
     others : (stream : Stream) → bytes_eq stream.name other ≡ false → (o : Option Stream) → find (has_name other) streams ≡ o
         → option_map (λ (stream : Stream). stream.content) (option_map (set_content stream bytes) o)

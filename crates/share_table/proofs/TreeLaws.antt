@@ -1,5 +1,6 @@
 -- What the effects of commands keep of a tree: its files, and its links.
-use Rattle.std.proofs.Common.{◌≡◌, ◌≢◌, ◌⊎◌, ◌==◌, ◌&&◌, ◌||◌, ℕ, Bool, true, false, cond, List, [], ◌∷◌, Option, Some, None, not, refl, sym, ap, subst, ◌∙◌, inl, inr, arith}
+use Rattle.std.proofs.Common.{◌≡◌, ◌≢◌, ◌⊎◌, ◌==◌, ◌&&◌, ◌||◌, ℕ, Bool, true, false, cond, List, [], ◌∷◌, Option, Some, None, not, refl}
+use Rattle.std.proofs.Common.{sym, ap, subst, ◌∙◌, inl, inr, arith}
 use Rattle.std.specs.Prelude.{IsSome}
 use Rattle.std.proofs.lemmas.Bool.{and_parts, eqb-true}
 use Rattle.std.specs.Cmp.{nat_cmp_total}
@@ -10,7 +11,8 @@ use Rattle.std.specs.List.{Contains}
 use Rattle.list_laws.proofs.MemberLaws.{Contains-cases, Contains-filter, Contains-later}
 use Rattle.list_laws.proofs.OrderLaws.{key_other}
 use Rattle.tree_model.specs.Drops.{goes_with, has_other_long, is_beside, is_last_name, is_link, is_long}
-use Rattle.tree_model.specs.Effects.{add_link, add_name, changed, changed_node, drop_link, drop_name, leave_file, link_to, make, move_name, new_node, security_of, stamp}
+use Rattle.tree_model.specs.Effects.{add_link, add_name, changed, changed_node, drop_link, drop_name, leave_file, link_to, make, move_name}
+use Rattle.tree_model.specs.Effects.{new_node, security_of, stamp}
 use Rattle.list_laws.specs.Ordered.{put_in_order}
 use Rattle.tree_model.specs.Subjects.{NameIn, NewName, NoName, RootPath}
 use Rattle.tree_model.specs.Tree.{Tree, is_dos, link_above, node_of}
@@ -27,7 +29,8 @@ some-cond false node o is = is
 
 insert-stays : (tree : Tree) (at : ℕ) (node : Node) (file : ℕ) → Stays tree (record tree { nodes = finmap.insert tree.nodes at node }) file
 insert-stays tree at node file is =
-    subst IsSome (sym (finmap.get-insert nat_cmp_total tree.nodes at node file)) (some-cond (eq_by_cmp nat_cmp file at) node (node_of tree file) is)
+    subst IsSome (sym (finmap.get-insert nat_cmp_total tree.nodes at node file))
+    (some-cond (eq_by_cmp nat_cmp file at) node (node_of tree file) is)
 
 pub changed-stays : (at : ℕ) (change : Node → Node) (tree : Tree) (file : ℕ) → Stays tree (changed at change tree) file
 changed-stays at change tree file is = by (node_of tree at)
@@ -38,7 +41,8 @@ changed-stays at change tree file is = by (node_of tree at)
 
 remove-stays : (tree : Tree) (at file : ℕ) → file ≢ at → Stays tree (record tree { nodes = finmap.remove tree.nodes at }) file
 remove-stays tree at file other is =
-    subst IsSome (sym (finmap.get-remove nat_cmp_total tree.nodes at file ∙ ap (λ b. cond b None (node_of tree file)) (key_other file at other))) is
+    subst IsSome (sym (finmap.get-remove nat_cmp_total tree.nodes at file
+    ∙ ap (λ b. cond b None (node_of tree file)) (key_other file at other))) is
 
 pub add_name-stays : (now file : ℕ) (new : NewName) (tree : Tree) (f : ℕ) → Stays tree (add_name now file new tree) f
 add_name-stays now file NoName tree f is = is
@@ -63,7 +67,8 @@ make-stays dir now file (NameIn parent name) tree f is =
 pub drop_name-stays : (now : ℕ) (link : Option Link) (tree : Tree) (f : ℕ)
     → ((one : Link) → link ≡ Some one → is_last_name tree one ≡ true → f ≢ one.child) → Stays tree (drop_name now link tree) f
 drop_name-stays now None tree f other is = is
-drop_name-stays now (Some link) tree f other is = changed-stays link.parent _ (leave_file now link tree) f (by (is_last_name tree link) refl)
+drop_name-stays now (Some link) tree f other is =
+    changed-stays link.parent _ (leave_file now link tree) f (by (is_last_name tree link) refl)
   where
     by : (b : Bool) → is_last_name tree link ≡ b → IsSome (node_of (leave_file now link tree) f)
     by true s = rw s (remove-stays (drop_link link tree) link.child f (other link refl s) is)
@@ -87,7 +92,8 @@ Contains-put : {A : Type 0} (above : A → A → Bool) (x : A) (ys : List A) (z 
 Contains-put above x [] z c = Contains-later x [] z c
 Contains-put {A = A} above x (y ∷ ys) z c = by (Contains-put above x ys z) (above x y)
   where
-    by : (Contains ys z → Contains (put_in_order above x ys) z) → (b : Bool) → Contains (cond b (y ∷ put_in_order above x ys) (x ∷ y ∷ ys)) z
+    by : (Contains ys z → Contains (put_in_order above x ys) z) → (b : Bool)
+        → Contains (cond b (y ∷ put_in_order above x ys) (x ∷ y ∷ ys)) z
     by ih true = elim (Contains-cases y ys z c) [
       | inl same ↦ (0, omega arith, same)
       | inr later ↦ Contains-later y (put_in_order above x ys) z (ih later)
@@ -102,7 +108,9 @@ beside-child : (link other : Link) → is_beside link other ≡ true → other.c
 beside-child link other e = eqb-true other.child link.child (and_parts (other.parent == link.parent) (other.child == link.child) e).1
 
 same-child : (a b : Link) → is_link a b ≡ true → b.child ≡ a.child
-same-child a b e = sym (eqb-true a.child b.child (and_parts ((a.parent == b.parent) && bytes_eq a.name b.name && (a.space == b.space)) (a.child == b.child) e).1)
+same-child a b e =
+    sym (eqb-true a.child b.child
+    (and_parts ((a.parent == b.parent) && bytes_eq a.name b.name && (a.space == b.space)) (a.child == b.child) e).1)
 
 goes-child : (tree : Tree) (link other : Link) → goes_with tree link other ≡ true → other.child ≡ link.child
 goes-child tree link other e = by (is_link link other) refl e
@@ -157,6 +165,7 @@ drop_name-link now (Some dropped) tree link has = elim (drop-link dropped tree l
   | inr same ↦ inr same
 ]
   where
-    by : Contains (drop_link dropped tree).links link → (b : Bool) → is_last_name tree dropped ≡ b → Contains (leave_file now dropped tree).links link
+    by : Contains (drop_link dropped tree).links link → (b : Bool) → is_last_name tree dropped ≡ b
+        → Contains (leave_file now dropped tree).links link
     by here true s = rw s here
     by here false s = rw s (changed-link dropped.child _ (drop_link dropped tree) link here)

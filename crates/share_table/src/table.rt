@@ -1,5 +1,6 @@
 //! The table of opens.
-ghost use Rattle.std.specs.Prelude.{◌≡◌, ◌≤◌, ◌==◌, ◌&&◌, IfErr, IfOk, IsSome, None, OnErr, OnOk, [], count_by, filter, find, length, not, option_map};
+ghost use Rattle.std.specs.Prelude.{◌≡◌, ◌≤◌, ◌==◌, ◌&&◌, IfErr, IfOk, IsSome, None, OnErr, OnOk, [], count_by, filter, find};
+ghost use Rattle.std.specs.Prelude.{length, not, option_map};
 ghost use Rattle.std.specs.List.{insert, list_any};
 ghost use Rattle.tree_model.specs.Cases.{AsksAlone, AsksFor, conflicts};
 ghost use Rattle.tree_model.specs.Opens.{are_compatible, contains, free_handle, is_handle, open_above};

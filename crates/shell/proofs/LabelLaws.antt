@@ -17,7 +17,8 @@ use Rattle.shell.specs.LabelSteps.{HasVolumeRecord, RefusesWith}
 -- by whether the boot clause holds
 by_clause : (image : List ℕ) (report : Report) (failing : Option ℕ)
     → boot_failing (boot_sector image) (length image / 512) ≡ failing
-    → MatchOption failing (TableReports (sector_in (Some image)) (boot_sector image) report) (λ number. report ≡ refuses (boot_refusal number))
+    → MatchOption failing (TableReports (sector_in (Some image)) (boot_sector image) report)
+    (λ number. report ≡ refuses (boot_refusal number))
     → LabelReports image report
 by_clause image report failing is said =
     subst (λ (o : Option ℕ). MatchOption o (TableReports (sector_in (Some image)) (boot_sector image) report)

@@ -1,5 +1,6 @@
 -- What is spelled behind the first character of a text.
-use Rattle.std.proofs.Common.{◌≡◌, ◌≢◌, ℕ, ◌+◌, ◌<◌, ◌≤◌, true, false, List, [], ◌∷◌, ◌++◌, length, Option, None, Some, refl, sym, ap, ◌∙◌, arith, length-append}
+use Rattle.std.proofs.Common.{◌≡◌, ◌≢◌, ℕ, ◌+◌, ◌<◌, ◌≤◌, true, false, List, [], ◌∷◌, ◌++◌, length, Option, None, Some, refl, sym, ap}
+use Rattle.std.proofs.Common.{◌∙◌, arith, length-append}
 use Rattle.std.specs.Prelude.{All, MatchOption, flat_map, encode_utf8}
 use Rattle.std.specs.Char.Escape.{encode_utf16}
 use Rattle.std.proofs.lemmas.Bool.Decides.{nat_tests}
@@ -70,7 +71,8 @@ none : (text units : List ℕ) (letters : List Letter) → length text ≡ 0 →
     → units ≡ flat_map letter_units letters → All IsLetter letters → length units ≡ 0
 none text units [] empty written meant each = ap length meant
 none text units (Escaped unit ∷ letters) empty written meant each =
-    let some : length text ≡ 5 + length (flat_map letter_text letters) = ap length written ∙ omega arith in absurd (omega (arith, some, empty))
+    let some : length text ≡ 5 + length (flat_map letter_text letters) = ap length written ∙ omega arith in
+    absurd (omega (arith, some, empty))
 none text units (Plain char ∷ letters) empty written meant each =
     let some = ap length written ∙ length-append (encode_utf8 char) (flat_map letter_text letters) in
     absurd (omega (arith, some, empty, length-encode char, len_utf8_bounds char))

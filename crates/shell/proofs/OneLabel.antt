@@ -26,9 +26,11 @@ one-table disk boot a b (inr x) (inl (other, meets, said)) = absurd (x.0 other m
 one-table disk boot a b (inr x) (inr y) = x.1 ∙ sym y.1
 
 one-answer : (failing : Option ℕ) (P : Report → Type 0) → ((a b : Report) → P a → P b → a ≡ b) → (a b : Report)
-    → MatchOption failing (P a) (λ number. a ≡ refuses (boot_refusal number)) → MatchOption failing (P b) (λ number. b ≡ refuses (boot_refusal number)) → a ≡ b
+    → MatchOption failing (P a) (λ number. a ≡ refuses (boot_refusal number))
+    → MatchOption failing (P b) (λ number. b ≡ refuses (boot_refusal number)) → a ≡ b
 one-answer None P one a b x y = one a b x y
 one-answer (Some number) P one a b x y = x ∙ sym y
 
 pub one-label : (image : List ℕ) (a b : Report) → LabelReports image a → LabelReports image b → a ≡ b
-one-label image a b x y = one-answer _ (TableReports (sector_in (Some image)) (boot_sector image)) (one-table (sector_in (Some image)) (boot_sector image)) a b x y
+one-label image a b x y = one-answer _ (TableReports (sector_in (Some image)) (boot_sector image))
+    (one-table (sector_in (Some image)) (boot_sector image)) a b x y

@@ -112,7 +112,8 @@ accepted_begins image written a =
     }
 
 -- the same run, on the disk that was lent
-pub ran_over : {D S K : Type 0} (d : disk.Ghosts D) (s : source.Ghosts S) (k : sink.Ghosts K) (image : List ℕ) (from : Origin) (end : ScriptEnd)
+pub ran_over : {D S K : Type 0} (d : disk.Ghosts D) (s : source.Ghosts S) (k : sink.Ghosts K) (image : List ℕ)
+    (from : Origin) (end : ScriptEnd)
     (lent before after back : D) (script script' : S) (out out' : K) → before ≡ lent → back ≡ after
     → Ran image from end (world d s k before script out) (world d s k after script' out')
     → Ran image from end (world d s k lent script out) (world d s k back script' out')
@@ -149,14 +150,17 @@ blames_since script.TooMuch old middle new l b = record { disk = b.disk ∙ l.di
 printed_since : (from : Origin) (end : ScriptEnd) (first : State) (turns : List Turn) (old middle new : World) → LeavesRun old middle
     → IsPrinted from end first turns middle new → IsPrinted from end first turns old new
 printed_since (of_script text) script.Done first turns old middle new l p = subst (λ got. IsAppended got (printed_of turns) new.got) l.got p
-printed_since (of_script text) script.Source first turns old middle new l p = subst (λ got. IsAppended got (printed_of turns) new.got) l.got p
+printed_since (of_script text) script.Source first turns old middle new l p =
+    subst (λ got. IsAppended got (printed_of turns) new.got) l.got p
 printed_since (of_script text) script.Sink first turns old middle new l p = subst (λ got. IsCutOff turns got new.got) l.got p
 printed_since (of_script text) script.Device first turns old middle new l (inl p) =
     inl (p.0 ∙ l.sink, subst (λ got. IsAppended got (printed_of turns) new.got) l.got p.1)
 printed_since (of_script text) script.Device first turns old middle new l (inr p) =
     inr (subst (λ n. Rose n new.sink_faults) l.sink p.0, subst (λ got. IsCutOff turns got new.got) l.got p.1)
-printed_since (of_script text) script.Memory first turns old middle new l p = subst (λ got. IsAppended got (printed_of turns) new.got) l.got p
-printed_since (of_script text) script.TooMuch first turns old middle new l p = subst (λ got. IsAppended got (printed_of turns) new.got) l.got p
+printed_since (of_script text) script.Memory first turns old middle new l p =
+    subst (λ got. IsAppended got (printed_of turns) new.got) l.got p
+printed_since (of_script text) script.TooMuch first turns old middle new l p =
+    subst (λ got. IsAppended got (printed_of turns) new.got) l.got p
 printed_since (of_seed seed n) script.Done first turns old middle new l p =
     subst (λ got. TellsAll n (last_of first turns) turns got new.got) l.got p
 printed_since (of_seed seed n) script.Source first turns old middle new l p = absurd p
@@ -171,7 +175,10 @@ printed_since (of_seed seed n) script.Device first turns old middle new l (inl p
       ],
     )
 printed_since (of_seed seed n) script.Device first turns old middle new l (inr p) =
-    inr (subst (λ count. Rose count new.sink_faults) l.sink p.0, subst (λ got. TellsPart n (last_of first turns) turns got new.got) l.got p.1)
+    inr (
+      subst (λ count. Rose count new.sink_faults) l.sink p.0,
+      subst (λ got. TellsPart n (last_of first turns) turns got new.got) l.got p.1,
+    )
 printed_since (of_seed seed n) script.Memory first turns old middle new l p = p ∙ l.got
 printed_since (of_seed seed n) script.TooMuch first turns old middle new l p = absurd p
 
@@ -233,7 +240,8 @@ untouched : (old new : World) → OnlyReads old new → new.got ≡ old.got → 
 untouched old new o got = record { now = o.contents.now; settled = o.contents.settled; written = o.contents.written; got = got }
 
 -- a disk that was not taken into use
-pub ends_unmounted : (Are : Origin → Type 0) (why : MountNo) (given : Ending) (old new : World) → Refuses why given old.got new.got old.sink_faults new.sink_faults
+pub ends_unmounted : (Are : Origin → Type 0) (why : MountNo) (given : Ending) (old new : World)
+    → Refuses why given old.got new.got old.sink_faults new.sink_faults
     → OnlyReads old new → CountsMount old.disk_faults new.disk_faults why → IsMountNo old.now why → RunEnds Are given old new
 ends_unmounted Are (no.Refused k n) given old new shown only quiet is = ends_reported Are given old new only
     (ends_shown CheckReports (refuses (record { clause = k; number = n })) given old new shown only quiet is)

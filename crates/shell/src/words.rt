@@ -1,5 +1,6 @@
 //! The words of the command line.
-ghost use Rattle.std.specs.Prelude.{◌≡◌, ◌<◌, ◌≤◌, ◌^◌, ◌↔◌, ℕ, ◌∷◌, [], Ok, Some, IfOk, IfSome, IsErr, IsTrue, codes, decimal, map, string_bytes};
+ghost use Rattle.std.specs.Prelude.{◌≡◌, ◌<◌, ◌≤◌, ◌^◌, ◌↔◌, ℕ, ◌∷◌, [], Ok, Some, IfOk, IfSome, IsErr, IsTrue, codes};
+ghost use Rattle.std.specs.Prelude.{decimal, map, string_bytes};
 ghost use Rattle.volume_format.specs.Options.{Options};
 ghost use Rattle.shell.specs.Words.{AreFormatWords, AreKnown, AreMakeWords, AreWords, AskToFormat, AskToMake, AskToRead, AskToRun};
 

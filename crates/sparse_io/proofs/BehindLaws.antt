@@ -1,11 +1,12 @@
 -- When bytes go over those that were written, or right behind them: of the clusters that they touch, all that the stream has are placed.
-use Rattle.std.proofs.Common.{◌≡◌, ◌+◌, ◌-◌, ◌*◌, ◌/◌, ◌%◌, ◌<◌, ◌≤◌, ◌==◌, ◌&&◌, not, ℕ, zero, suc, Bool, true, false, List, [], ◌∷◌, length, max}
-use Rattle.std.proofs.Common.{Option, Some, None, inl, inr, refl, sym, ap, subst, ◌∙◌, arith}
+use Rattle.std.proofs.Common.{◌≡◌, ◌+◌, ◌-◌, ◌*◌, ◌/◌, ◌%◌, ◌<◌, ◌≤◌, ◌==◌, ◌&&◌, not, ℕ, zero, suc, Bool, true, false, List, [], ◌∷◌}
+use Rattle.std.proofs.Common.{length, max, Option, Some, None, inl, inr, refl, sym, ap, subst, ◌∙◌, arith}
 use Rattle.std.specs.Prelude.{◌⊎◌, ◌||◌, IsSomeAnd, is_some, nat_le, nat_lt, option_and_then, slice_get, slice_index, if◌then◌else◌}
 use Rattle.std.specs.List.{Contains, count_by, range_with_len}
 use Rattle.std.specs.Option.{option_map_or}
 use Rattle.std.proofs.Math.Nat.{div-lt_iff_lt-mul, le-div_iff_mul-le}
-use Rattle.std.proofs.lemmas.Bool.{and_from, and_left, and_right, cases_Bool, cases_eq, cases_lt, eq-eqb, eqb-true, le-leb, le-ltb, leb-true, lt-ltb, ltb-true, ne_eqb}
+use Rattle.std.proofs.lemmas.Bool.{and_from, and_left, and_right, cases_Bool, cases_eq, cases_lt, eq-eqb, eqb-true, le-leb, le-ltb}
+use Rattle.std.proofs.lemmas.Bool.{leb-true, lt-ltb, ltb-true, ne_eqb}
 use Rattle.std.proofs.lemmas.List.FromFn.{length-range_with_len}
 use Rattle.std.proofs.lemmas.List.Sums.{count_by-le-length, sum_by-cons}
 use Rattle.ntfs_def.specs.Attribute.{Attribute, Body, ExtentHeader, NonResident, Resident}
@@ -142,7 +143,8 @@ module _ (spot : ℕ → Spot) (size at len total : ℕ) (some : 0 < size) (byte
     | inr le ↦
         let none : inside ≡ 0 = omega (arith, le) in
         let no_byte : (vcn : ℕ) → test inside vcn ≡ false
-        = λ vcn. ap (λ n. (nat_lt 0 n && nat_lt (vcn * size) (at + n) && nat_lt at (vcn * size + size)) && not (is_cluster (spot vcn))) none in
+        = λ vcn. ap (λ n. (nat_lt 0 n && nat_lt (vcn * size) (at + n) && nat_lt at (vcn * size + size)) && not (is_cluster (spot vcn)))
+        none in
         count-none (test inside) (range_with_len 0 total) (λ vcn c. no_byte vcn)
         ∙ sym (count-none (test inside) (range_with_len 0 (clusters_for (at + inside) size)) (λ vcn c. no_byte vcn))
   ]
@@ -234,7 +236,8 @@ module _ (part : Part) (extent : ExtentHeader) (runs : Option (List Run)) (is : 
         fewer : (len ≡ 0) ⊎ (many < at / size) → unplaced (spot_at alone) size at len ≡ more → ⊥
         fewer (inl none) same =
             let c = count-none test (range_with_len 0 (clusters_for (at + len) size)) (λ vcn there.
-            ap (λ n. (nat_lt 0 n && nat_lt (vcn * size) (at + len) && nat_lt at (vcn * size + size)) && not (is_cluster (spot_at alone vcn))) none) in
+            ap (λ n. (nat_lt 0 n && nat_lt (vcn * size) (at + len) && nat_lt at (vcn * size + size))
+            && not (is_cluster (spot_at alone vcn))) none) in
             omega (arith, c, same, some)
         fewer (inr past) same =
             let low = at / size in
@@ -323,7 +326,8 @@ module _ (view : VolumeView) (table name : List ℕ) (file : FileParts) (found :
 
   first-named : first_part named ≡ Some is.part
   first-named =
-      ap first_part (named-like view table name file found h is a at_part names) ∙ first-like view table name file found h is a at_part names
+      ap first_part (named-like view table name file found h is a at_part names)
+      ∙ first-like view table name file found h is a at_part names
 
   -- a value lies in no clusters
   pub not-value : (value : List ℕ) → a.body ≡ Resident value → in_extent (first_part named) ≡ true → ⊥

@@ -1,5 +1,6 @@
 -- What is kept of the streams of a file is what the tree has of them, in the order of the tree.
-use Rattle.std.proofs.Common.{◌≡◌, ◌≢◌, ℕ, zero, suc, ◌+◌, ◌-◌, ◌<◌, ◌≤◌, ◌==◌, ◌&&◌, leb, Bool, true, false, cond, List, [], ◌∷◌, ◌++◌, length, map, take, drop, min, Option, Some, None, inl, inr, refl, sym, ap, subst, append_assoc, ◌∙◌, arith}
+use Rattle.std.proofs.Common.{◌≡◌, ◌≢◌, ℕ, zero, suc, ◌+◌, ◌-◌, ◌<◌, ◌≤◌, ◌==◌, ◌&&◌, leb, Bool, true, false, cond, List, [], ◌∷◌, ◌++◌}
+use Rattle.std.proofs.Common.{length, map, take, drop, min, Option, Some, None, inl, inr, refl, sym, ap, subst, append_assoc, ◌∙◌, arith}
 use Rattle.std.specs.Prelude.{IfSome, IsSomeAnd, IsTrue, filter, find, slice_get, slice_range}
 use Rattle.std.specs.List.{All, Contains, count_by}
 use Rattle.std.specs.Option.{option_map_or, option_or}
@@ -111,7 +112,8 @@ first-count : (ordered : List Part) → AreWhole ordered → (1 < length ordered
 first-count [] whole several = omega arith
 first-count (one ∷ []) whole several = at-most one [] refl
 first-count (one ∷ two ∷ more) (begins, rest) several =
-    let some = All-contains (λ part. 1 ≤ part_clusters part) (one ∷ two ∷ more) one (several (omega arith)) (Contains-head one (two ∷ more)) in
+    let some = All-contains (λ part. 1 ≤ part_clusters part) (one ∷ two ∷ more) one (several (omega arith))
+    (Contains-head one (two ∷ more)) in
     at-most one (two ∷ more) (later-none (0 + part_clusters one) (two ∷ more) (omega arith) rest)
 
 first-only : (size f : ℕ) (extents : List Part) (part : Part) → AreAttribute size f extents → Contains extents part → is_first part ≡ true
@@ -140,13 +142,15 @@ module _ (view : VolumeView) (table : List ℕ) (file : FileParts) (h : IsHeldWi
       let there = subst (λ (ps : List Part). Contains ps part) h.parts.parts among in
       let other : part.kind ≢ FILE_NAME = λ e. let d : DATA ≡ FILE_NAME = sym both.0 ∙ e in cc in
       let stream = readable-stream view (file_number file) part h.readable h.is_file there other in
-      let own = subst (λ (ps : List Part). AreAttribute (cluster_bytes view.layout) (file_number file) (parts_like part ps)) (sym h.parts.parts) stream in
+      let own = subst (λ (ps : List Part). AreAttribute (cluster_bytes view.layout) (file_number file) (parts_like part ps))
+      (sym h.parts.parts) stream in
       first-only (cluster_bytes view.layout) (file_number file) (parts_like part all) part own
       (Contains-filter (is_of part.kind part.name) all part among (like-itself part)) both.1
 
   -- what the tree shows of it
   shown-by : (part : Part) → first_part (parts_like part all) ≡ Some part
-      → content_at view all part ≡ cond (is_packed_part part) (Packed (real_size part.content)) (Plain (value_on view (parts_like part all)))
+      → content_at view all part ≡ cond (is_packed_part part) (Packed (real_size part.content))
+      (Plain (value_on view (parts_like part all)))
   shown-by part first =
       ap (λ o. cond (option_map_or is_packed_part o false) (Packed (told_size o)) (Plain (value_on view (parts_like part all)))) first
 
@@ -166,11 +170,13 @@ module _ (view : VolumeView) (table : List ℕ) (file : FileParts) (h : IsHeldWi
   pub kept-size : (part : Part) → first_part (parts_like part all) ≡ Some part → real_size part.content ≡ size_of (content_at view all part)
   kept-size part first = by (is_packed_part part) ∙ sym (ap size_of (shown-by part first))
     where
-      by : (b : Bool) → real_size part.content ≡ size_of (cond b (Packed (real_size part.content)) (Plain (value_on view (parts_like part all))))
+      by : (b : Bool) → real_size part.content
+          ≡ size_of (cond b (Packed (real_size part.content)) (Plain (value_on view (parts_like part all))))
       by true = refl
       by false = sym (value-length part first)
 
-  get-drop : {A : Type 0} (k : ℕ) (xs : List A) (x : A) (rest : List A) → drop k xs ≡ x ∷ rest → (slice_get xs k ≡ Some x) × (drop (k + 1) xs ≡ rest)
+  get-drop : {A : Type 0} (k : ℕ) (xs : List A) (x : A) (rest : List A) → drop k xs ≡ x ∷ rest
+      → (slice_get xs k ≡ Some x) × (drop (k + 1) xs ≡ rest)
   get-drop zero [] x rest e = cc
   get-drop (suc k) [] x rest e = cc
   get-drop zero (y ∷ ys) x rest e = let a : y ≡ x = cc in let b : ys ≡ rest = cc in (ap Some a, b)
@@ -185,7 +191,8 @@ module _ (view : VolumeView) (table : List ℕ) (file : FileParts) (h : IsHeldWi
   get-among (suc k) (y ∷ ys) x e = let r = get-among k ys x e in (suc r.0, omega (arith, r.1), r.2)
 
   -- one stream
-  keeps-at : (k : ℕ) (part : Part) → slice_get all k ≡ Some part → begins_stream part ≡ true → Keeps view all (kept_at k part) (stream_at view all part)
+  keeps-at : (k : ℕ) (part : Part) → slice_get all k ≡ Some part → begins_stream part ≡ true
+      → Keeps view all (kept_at k part) (stream_at view all part)
   keeps-at k part at begins =
       let first = tells-first part (get-among k all part at) begins in
       record {
@@ -206,7 +213,8 @@ module _ (view : VolumeView) (table : List ℕ) (file : FileParts) (h : IsHeldWi
       let got = get-drop k all part rest e in
       by (keep-from (k + 1) rest got.1) (begins_stream part) refl
     where
-      by : KeepAll view all (kept_from (k + 1) rest) (map (stream_at view all) (filter begins_stream rest)) → (b : Bool) → begins_stream part ≡ b
+      by : KeepAll view all (kept_from (k + 1) rest) (map (stream_at view all) (filter begins_stream rest))
+          → (b : Bool) → begins_stream part ≡ b
           → KeepAll view all (cond b (kept_at k part ∷ kept_from (k + 1) rest) (kept_from (k + 1) rest))
           (map (stream_at view all) (cond b (part ∷ filter begins_stream rest) (filter begins_stream rest)))
       by more true b = (keeps-at k part (get-drop k all part rest e).0 b, more)
@@ -287,7 +295,8 @@ keeps-streams view table file h =
     subst (λ (stored : List ℕ). KeepAll view (parts_held file) (in_order (kept_above (fold_of table)) (kept_from 0 (parts_held file)))
     (in_order (stream_above (fold_of stored)) (map (stream_at view (parts_held file)) (filter begins_stream (parts_held file))))) h.case
     (order-kept (fold_of table) view (parts_held file) (kept_from 0 (parts_held file))
-    (map (stream_at view (parts_held file)) (filter begins_stream (parts_held file))) (keep-from view table file h 0 (parts_held file) refl))
+    (map (stream_at view (parts_held file)) (filter begins_stream (parts_held file)))
+    (keep-from view table file h 0 (parts_held file) refl))
 
 -- One that is found is the stream that is sought, and where none is found there is none.
 
@@ -296,7 +305,8 @@ found_in table file name =
     sought (λ (x : HeldStream). x.name) (fold_of table) (in_order (kept_above (fold_of table)) (kept_from 0 (parts_held file))) name
 
 found-alike : (view : VolumeView) (table : List ℕ) (file : FileParts) (name : List ℕ) → IsHeldWith view table file
-    → FoundAlike (fold_of table) view (parts_held file) (found_in table file name) (sought_stream (volume_fold view) (streams_held view file) name)
+    → FoundAlike (fold_of table) view (parts_held file) (found_in table file name)
+    (sought_stream (volume_fold view) (streams_held view file) name)
 found-alike view table file name h =
     subst (λ (stored : List ℕ). FoundAlike (fold_of table) view (parts_held file) (found_in table file name)
     (sought_stream (fold_of stored) (streams_held view file) name)) h.case
@@ -349,7 +359,8 @@ module _ (n : ℕ) where
       by more true = (omega arith, more)
       by more false = more
 
-  placed-put : (fold : ℕ → ℕ) (x : HeldStream) (ys : List HeldStream) → x.part < n → Placed ys → Placed (put_in_order (kept_above fold) x ys)
+  placed-put : (fold : ℕ → ℕ) (x : HeldStream) (ys : List HeldStream) → x.part < n → Placed ys
+      → Placed (put_in_order (kept_above fold) x ys)
   placed-put fold x [] xn h = (xn, tt)
   placed-put fold x (y ∷ ys) xn (yn, h) = by (placed-put fold x ys xn h) (kept_above fold x y)
     where
@@ -387,7 +398,8 @@ found-placed table file name x e =
     let placed = placed-order n fold (kept_from 0 (parts_held file)) (placed-from n 0 (parts_held file) (omega arith)) in
     subst (IsPlaced n) e
     (placed-or n (find (λ (x : HeldStream). bytes_eq x.name name) xs) (find (λ (x : HeldStream). are_same fold x.name name) xs)
-    (placed-find n (λ (x : HeldStream). bytes_eq x.name name) xs placed) (placed-find n (λ (x : HeldStream). are_same fold x.name name) xs placed))
+    (placed-find n (λ (x : HeldStream). bytes_eq x.name name) xs placed)
+    (placed-find n (λ (x : HeldStream). are_same fold x.name name) xs placed))
 
 -- What is shown of it, and what is read.
 

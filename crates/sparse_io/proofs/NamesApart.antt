@@ -1,5 +1,6 @@
 -- The names of the attributes of a file that is held are told apart by their units.
-use Rattle.std.proofs.Common.{◌≡◌, ◌+◌, ◌*◌, ◌/◌, ◌%◌, ◌<◌, ◌==◌, ◌&&◌, ℕ, zero, suc, Bool, true, false, cond, List, [], ◌∷◌, length, get_or, Some, refl, sym, ap, subst, ◌∙◌, arith}
+use Rattle.std.proofs.Common.{◌≡◌, ◌+◌, ◌*◌, ◌/◌, ◌%◌, ◌<◌, ◌==◌, ◌&&◌, ℕ, zero, suc, Bool, true, false, cond, List, [], ◌∷◌, length}
+use Rattle.std.proofs.Common.{get_or, Some, refl, sym, ap, subst, ◌∙◌, arith}
 use Rattle.std.specs.Prelude.{filter}
 use Rattle.std.specs.List.{Contains}
 use Rattle.std.specs.Str.{bytes_eq}
@@ -121,6 +122,7 @@ parts-by_name view file one are kind apart =
     ap (filter p) (sym are.parts)
     ∙ filter-members p (is_of one.kind one.name) (parts_held file) (λ part there.
     let names = same-tests (bytes_eq (units_in part.name) (units_in one.name)) (bytes_eq part.name one.name)
-    (λ same. (bytes_eq-Decides part.name one.name).1 (apart part there ((bytes_eq-Decides (units_in part.name) (units_in one.name)).0 same)))
+    (λ same. (bytes_eq-Decides part.name one.name).1
+    (apart part there ((bytes_eq-Decides (units_in part.name) (units_in one.name)).0 same)))
     (λ same. (bytes_eq-Decides (units_in part.name) (units_in one.name)).1 (ap units_in ((bytes_eq-Decides part.name one.name).0 same))) in
     ap (λ b. (part.kind == DATA) && b) names ∙ ap (λ k. (part.kind == k) && bytes_eq part.name one.name) (sym kind))

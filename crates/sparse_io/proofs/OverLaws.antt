@@ -1,10 +1,13 @@
 -- When bytes go over bytes of a stream, by the part that tells its sizes and by where its clusters lie.
-use Rattle.std.proofs.Common.{◌≡◌, ◌+◌, ◌-◌, ◌*◌, ◌/◌, ◌%◌, ◌<◌, ◌≤◌, ◌==◌, ◌&&◌, ◌||◌, not, ℕ, Bool, true, false, List, [], ◌∷◌, length, max, Option, Some, None, inl, inr, refl, sym, ap, subst, ◌∙◌, arith}
-use Rattle.std.specs.Prelude.{◌⊎◌, IsSome, IsSomeAnd, MatchBool, find, is_some, nat_le, nat_lt, option_and_then, slice_get, slice_index, unwrap_or}
+use Rattle.std.proofs.Common.{◌≡◌, ◌+◌, ◌-◌, ◌*◌, ◌/◌, ◌%◌, ◌<◌, ◌≤◌, ◌==◌, ◌&&◌, ◌||◌, not, ℕ, Bool, true, false, List, [], ◌∷◌, length}
+use Rattle.std.proofs.Common.{max, Option, Some, None, inl, inr, refl, sym, ap, subst, ◌∙◌, arith}
+use Rattle.std.specs.Prelude.{◌⊎◌, IsSome, IsSomeAnd, MatchBool, find, is_some, nat_le, nat_lt, option_and_then}
+use Rattle.std.specs.Prelude.{slice_get, slice_index, unwrap_or}
 use Rattle.std.specs.List.{Contains, count_by, range_with_len}
 use Rattle.std.specs.Option.{option_map, option_map_or}
 use Rattle.std.proofs.Math.Nat.{div-lt_iff_lt-mul, le-div_iff_mul-le}
-use Rattle.std.proofs.lemmas.Bool.{and_from, and_left, and_parts, and_right, cases_Bool, cases_lt, le-leb, leb-true, lt-ltb, ltb-true, ne_eqb, or_right}
+use Rattle.std.proofs.lemmas.Bool.{and_from, and_left, and_parts, and_right, cases_Bool, cases_lt, le-leb, leb-true, lt-ltb}
+use Rattle.std.proofs.lemmas.Bool.{ltb-true, ne_eqb, or_right}
 use Rattle.ntfs_def.specs.Attribute.{Attribute, Body, ExtentHeader, NonResident, Resident, extent_of}
 use Rattle.ntfs_def.specs.Rounded.{clusters_for}
 use Rattle.ntfs_def.specs.Runs.{runs_in, total_clusters}
@@ -16,7 +19,8 @@ use Rattle.list_laws.proofs.CodedLaws.{SameItems-Contains}
 use Rattle.list_laws.proofs.FindLaws.{count-agree, count-none, count-some, find-found}
 use Rattle.list_laws.proofs.MemberLaws.{Contains-cases, Contains-nil, Contains-only, Contains-range}
 use Rattle.volume_def.specs.ExtentsClause.{AreAttribute, AreWhole, FollowFrom}
-use Rattle.volume_def.specs.Files.{Clusters, Content, Part, Value, content_extent, content_of, content_runs, content_value, part_clusters, part_of, parts_like}
+use Rattle.volume_def.specs.Files.{Clusters, Content, Part, Value, content_extent, content_of, content_runs, content_value}
+use Rattle.volume_def.specs.Files.{part_clusters, part_of, parts_like}
 use Rattle.volume_def.specs.StreamSize.{real_size, told_size}
 use Rattle.volume_def.specs.Values.{first_part, first_vcn_of, holds_vcn, is_first, spot_at, spot_by}
 use Rattle.volume_def.specs.Table.{cluster_bytes}
@@ -68,7 +72,8 @@ module _ (spot : ℕ → Spot) (size at len : ℕ) (some : 0 < size) where
       let down : at < (vcn + 1) * size = (div-lt_iff_lt-mul some).0 (omega (arith, low)) in
       let inside : vcn + 1 ≤ (at + len + (size - 1)) / size = (le-div_iff_mul-le some).1 (omega (arith, up, one, some)) in (
         and_from (nat_lt 0 len && nat_lt (vcn * size) (at + len)) (nat_lt at (vcn * size + size))
-            (and_from (nat_lt 0 len) (nat_lt (vcn * size) (at + len)) (lt-ltb 0 len one) (lt-ltb (vcn * size) (at + len) (omega (arith, up, one))))
+            (and_from (nat_lt 0 len) (nat_lt (vcn * size) (at + len)) (lt-ltb 0 len one)
+            (lt-ltb (vcn * size) (at + len) (omega (arith, up, one))))
             (lt-ltb at (vcn * size + size) (omega (arith, down))),
         omega (arith, inside),
       )
@@ -114,8 +119,10 @@ module _ (extents : List Part) (size at len : ℕ) where
       let by : Option Part → Bool = λ o. is_some o && ((((count_by (λ vcn. (touches size at len vcn
       || touches size 0 (option_map_or length (option_and_then (λ part. content_value part.content) o) 0) vcn)
       && not (is_cluster (spot_at extents vcn)))
-      (range_with_len 0 (clusters_for (max (at + len) (option_map_or length (option_and_then (λ part. content_value part.content) o) 0)) size)) == 0)
-      && nat_le at (option_map_or initialized_in o 0)) && nat_le (at + len) (told_size o)) && nat_le (at + len) (option_map_or initialized_in o 0)) in
+      (range_with_len 0
+      (clusters_for (max (at + len) (option_map_or length (option_and_then (λ part. content_value part.content) o) 0)) size)) == 0)
+      && nat_le at (option_map_or initialized_in o 0)) && nat_le (at + len) (told_size o))
+      && nat_le (at + len) (option_map_or initialized_in o 0)) in
       ap by first
 
   -- of an extent: the bytes end below both sizes, and no cluster that they touch is placed by no run
@@ -143,7 +150,8 @@ module _ (extents : List Part) (size at len : ℕ) where
       → over_by (Clusters extent runs) ≡ (unplaced (spot_at extents) size at len == 0)
   extent-over extent runs written real =
       and-true (count_by (λ vcn. (touches size at len vcn || touches size 0 0 vcn) && not (is_cluster (spot_at extents vcn)))
-      (range_with_len 0 (clusters_for (max (at + len) 0) size)) == 0) (nat_le at extent.sizes.initialized) (nat_le (at + len) extent.sizes.real)
+      (range_with_len 0 (clusters_for (max (at + len) 0) size)) == 0) (nat_le at extent.sizes.initialized)
+      (nat_le (at + len) extent.sizes.real)
       (nat_le (at + len) extent.sizes.initialized) (le-leb at extent.sizes.initialized (omega (arith, written)))
       (le-leb (at + len) extent.sizes.real real) (le-leb (at + len) extent.sizes.initialized written)
       ∙ ap (λ n. n == 0) (extent-count extent runs)
@@ -159,7 +167,8 @@ module _ (extents : List Part) (size at len : ℕ) where
 
   pub behind-real : (content : Content) → real_size content < at + len → over_by content ≡ false
   behind-real content lt =
-      and_left _ (nat_le (at + len) (written content)) (and_right _ (nat_le (at + len) (real_size content)) (leb-false-lt (at + len) (real_size content) lt))
+      and_left _ (nat_le (at + len) (written content))
+      (and_right _ (nat_le (at + len) (real_size content)) (leb-false-lt (at + len) (real_size content) lt))
 
   -- of a value: no byte over none
   pub value-none : (value : List ℕ) → at + len ≡ 0 → length value ≡ 0 → over_by (Value value) ≡ true
@@ -170,7 +179,8 @@ module _ (extents : List Part) (size at len : ℕ) where
       (range_with_len 0 (clusters_for (max (at + len) n) size)) (λ vcn there.
       ap (λ m. ((nat_lt 0 m && nat_lt (vcn * size) (at + len) && nat_lt at (vcn * size + size)) || touches size 0 n vcn)
       && not (is_cluster (spot_at extents vcn))) z
-      ∙ ap (λ m. (nat_lt 0 m && nat_lt (vcn * size) (0 + m) && nat_lt 0 (vcn * size + size)) && not (is_cluster (spot_at extents vcn))) none) in
+      ∙ ap (λ m. (nat_lt 0 m && nat_lt (vcn * size) (0 + m) && nat_lt 0 (vcn * size + size)) && not (is_cluster (spot_at extents vcn)))
+      none) in
       and-true (count_by (λ vcn. (touches size at len vcn || touches size 0 n vcn) && not (is_cluster (spot_at extents vcn)))
       (range_with_len 0 (clusters_for (max (at + len) n) size)) == 0) (nat_le at n) (nat_le (at + len) n) (nat_le (at + len) n)
       (le-leb at n (omega (arith, end))) (le-leb (at + len) n (omega (arith, end))) (le-leb (at + len) n (omega (arith, end)))
@@ -193,7 +203,8 @@ module _ (extents : List Part) (size at len : ℕ) where
       and_left _ (nat_le (at + len) n) (and_left _ (nat_le (at + len) n) (and_left (count_by test all == 0) (nat_le at n) z))
 
 -- A value has no cluster.
-follow-extents : (vcn : ℕ) (parts : List Part) (part : Part) → FollowFrom vcn parts → Contains parts part → IsSome (content_extent part.content)
+follow-extents : (vcn : ℕ) (parts : List Part) (part : Part) → FollowFrom vcn parts → Contains parts part
+    → IsSome (content_extent part.content)
 follow-extents vcn [] part follow c = absurd (Contains-nil part c)
 follow-extents vcn (one ∷ parts) part (begins, follow) c = elim (Contains-cases one parts part c) [
   | inl same ↦ subst (λ (p : Part). IsSome (content_extent p.content)) same (some (content_extent one.content) begins.first)
@@ -264,7 +275,8 @@ placed-tells spot size at len some one true all = all-placed spot size at len so
 placed-tells spot size at len some one false (k, low, high, is) = one-unplaced spot size at len some k one low high is
 
 -- What an attribute holds, by whether it tells sizes.
-pub body-value : (body : Body) → option_map (λ (extent : ExtentHeader). extent.sizes) (extent_of body) ≡ None → (value : List ℕ) × (body ≡ Resident value)
+pub body-value : (body : Body) → option_map (λ (extent : ExtentHeader). extent.sizes) (extent_of body) ≡ None
+    → (value : List ℕ) × (body ≡ Resident value)
 body-value (Resident value) e = (value, refl)
 body-value (NonResident extent text) e = cc
 
@@ -314,7 +326,8 @@ module _ (view : VolumeView) (table name : List ℕ) (file : FileParts) (found :
     pub value-over : (value : List ℕ) → a.body ≡ Resident value → (b : Bool) → (b ≡ true → (from + len ≡ 0) × (length value ≡ 0))
         → (b ≡ false → (0 < from + len) ⊎ (0 < length value))
         → b ≡ goes_over size (parts_named view (file_number file) is.stream.name) from len
-    value-over value body b right other = sym (over-like ∙ ap (λ x. over_by (parts_held_like file a) size from len (content_of x)) body ∙ by b right other)
+    value-over value body b right other =
+        sym (over-like ∙ ap (λ x. over_by (parts_held_like file a) size from len (content_of x)) body ∙ by b right other)
       where
         nowhere : is_cluster (spot_at (parts_held_like file a) 0) ≡ false
         nowhere = value-nowhere (cluster_bytes view.layout) (file_number file) (parts_held_like file a) is.part value attribute-like
@@ -347,5 +360,6 @@ module _ (view : VolumeView) (table name : List ℕ) (file : FileParts) (found :
       real-over lt = sym (extent-like ∙ behind-real (parts_held_like file a) size from len (Clusters extent (runs_in text)) lt)
 
       pub placed-over : from + len ≤ extent.sizes.initialized → from + len ≤ extent.sizes.real
-          → (unplaced (spot_at (parts_held_like file a)) size from len == 0) ≡ goes_over size (parts_named view (file_number file) is.stream.name) from len
+          → (unplaced (spot_at (parts_held_like file a)) size from len == 0)
+          ≡ goes_over size (parts_named view (file_number file) is.stream.name) from len
       placed-over w r = sym (extent-like ∙ extent-over (parts_held_like file a) size from len extent (runs_in text) w r)

@@ -1,5 +1,6 @@
 -- Bytes written over those of a stream in pieces: the sectors that they fill, and then those in front and behind.
-use Rattle.std.proofs.Common.{◌≡◌, ◌≢◌, ◌+◌, ◌*◌, ◌/◌, ◌%◌, ◌<◌, ◌≤◌, ℕ, zero, suc, List, ◌++◌, length, Option, Some, None, inl, inr, sym, ap, subst, ◌∙◌, arith, length-append}
+use Rattle.std.proofs.Common.{◌≡◌, ◌≢◌, ◌+◌, ◌*◌, ◌/◌, ◌%◌, ◌<◌, ◌≤◌, ℕ, zero, suc, List, ◌++◌, length, Option, Some, None, inl, inr, sym}
+use Rattle.std.proofs.Common.{ap, subst, ◌∙◌, arith, length-append}
 use Rattle.std.specs.Prelude.{Contains, IsSomeAnd, IsTrue, filter, option_to_list, slice_get}
 use Rattle.std.specs.List.{range_with_len}
 use Rattle.ntfs_def.specs.Attribute.{Attribute}
@@ -43,7 +44,8 @@ module _ (view : VolumeView) (table name : List ℕ) (file : FileParts) (found :
   found-first =
       let among = get-among view table file h found.part (parts_held file) is.part is.at in
       let kind = (begins-both view table file h is.part is.begins).0 in
-      ap (λ k. first_part (filter (is_of k is.part.name) (parts_held file))) (sym kind) ∙ tells-first view table file h is.part among is.begins
+      ap (λ k. first_part (filter (is_of k is.part.name) (parts_held file))) (sym kind)
+      ∙ tells-first view table file h is.part among is.begins
 
   pub found-stored : IsStored file DATA is.part.name stored
   found-stored =
@@ -74,7 +76,8 @@ module _ (view : VolumeView) (table name : List ℕ) (file : FileParts) (found :
   found-like_attribute a at = subst (AreAttribute (cluster_bytes view.layout) (file_number file)) (sym (found-like a at)) found-attribute
 
 -- A part of a range that is placed.
-pub placed-part : (size : ℕ) (spot : ℕ → Spot) (at len a n : ℕ) → at ≤ a → a + n ≤ at + len → IsPlaced size spot at len → IsPlaced size spot a n
+pub placed-part : (size : ℕ) (spot : ℕ → Spot) (at len a n : ℕ) → at ≤ a → a + n ≤ at + len
+    → IsPlaced size spot at len → IsPlaced size spot a n
 placed-part size spot at len a n low high placed i inside = placed i (omega (arith, inside.0, low), omega (arith, inside.1, high))
 
 pub writable-part : (view : VolumeView) (extents : List Part) (at len a n : ℕ) → at ≤ a → a + n ≤ at + len → IsWritable view extents at len
@@ -104,7 +107,8 @@ placed-here (Some t) s c = ap Some (Contains-only t s c)
 sector-in : (layout : TableLayout) (spot : ℕ → Spot) (at len s : ℕ) → Contains (stream_sectors layout spot at len) s
     → (k : ℕ) × (at / 512 ≤ k) × (k < at / 512 + len / 512) × (stream_place layout spot k ≡ Some s)
 sector-in layout spot at len s c =
-    let (k, inside, there) = Contains-from_flat_map (λ n. option_to_list (stream_place layout spot n)) (range_with_len (at / 512) (len / 512)) s c in
+    let (k, inside, there) = Contains-from_flat_map (λ n. option_to_list (stream_place layout spot n))
+    (range_with_len (at / 512) (len / 512)) s c in
     let r = Contains-from_range (at / 512) (len / 512) k inside in
     (k, r.0, r.1, placed-here (stream_place layout spot k) s there)
 
@@ -146,11 +150,13 @@ pieces-written a b c d like extents f at from last head middle tail bytes lb tb 
     let two = second (subst IsTrue (sym tb) told) f (subst (λ (l : TableLayout). AreAttribute (cluster_bytes l) f like) (sym lb) attribute)
     (subst IsApart (sym lb) own.apart) (subst (λ (l : TableLayout). IsOwnStream l (spot_at like)) (sym lb) own.own)
     (subst (λ (l : TableLayout). IsPlaced (cluster_bytes l) (spot_at like) at (length head)) (sym lb)
-    (placed-part (cluster_bytes a.layout) (spot_at like) at (length bytes) at (length head) (omega arith) (omega (arith, len)) own.placed)) in
+    (placed-part (cluster_bytes a.layout) (spot_at like) at (length bytes) at (length head) (omega arith)
+    (omega (arith, len)) own.placed)) in
     let three = third (subst IsTrue (sym tc) told) f (subst (λ (l : TableLayout). AreAttribute (cluster_bytes l) f like) (sym lc) attribute)
     (subst IsApart (sym lc) own.apart) (subst (λ (l : TableLayout). IsOwnStream l (spot_at like)) (sym lc) own.own)
     (subst (λ (l : TableLayout). IsPlaced (cluster_bytes l) (spot_at like) last (length tail)) (sym lc)
-    (placed-part (cluster_bytes a.layout) (spot_at like) at (length bytes) last (length tail) (omega (arith, e, k)) (omega (arith, e, k, len)) own.placed)) in
+    (placed-part (cluster_bytes a.layout) (spot_at like) at (length bytes) last (length tail) (omega (arith, e, k))
+    (omega (arith, e, k, len)) own.placed)) in
     written-thrice a b c d (spot_at extents) at from last head middle tail bytes e k is one
     (subst (λ (xs : List Part). WritesStream b c (spot_at xs) at head) same two)
     (subst (λ (xs : List Part). WritesStream c d (spot_at xs) last tail) same three)
@@ -170,7 +176,8 @@ staged-first g layout spot at len from n a b low high stages =
     (λ s there. touched-part layout spot at len from n s low high there) stages
 
 -- and then a piece
-pub staged-piece : {D : Type 0} (g : Ghosts D) (layout mid : TableLayout) (like extents : List Part) (f at len from n : ℕ) (a b c : Stage D g)
+pub staged-piece : {D : Type 0} (g : Ghosts D) (layout mid : TableLayout) (like extents : List Part)
+    (f at len from n : ℕ) (a b c : Stage D g)
     → at ≤ from → from + n ≤ at + len → mid ≡ layout → like ≡ extents → AreAttribute (cluster_bytes layout) f like
     → StagesOnly g (touched_sectors layout (spot_at extents) at len) a b
     → ((f : ℕ) → AreAttribute (cluster_bytes mid) f like → StagesOnly g (touched_sectors mid (spot_at like) from n) b c)

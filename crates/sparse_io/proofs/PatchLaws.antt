@@ -1,5 +1,6 @@
 -- Bytes written over a part of a sector of a stream, and pieces that were written one after another.
-use Rattle.std.proofs.Common.{◌≡◌, ◌≢◌, ◌+◌, ◌-◌, ◌*◌, ◌/◌, ◌%◌, ◌<◌, ◌≤◌, ℕ, List, ◌++◌, length, Some, refl, sym, ap, subst, inl, inr, ◌∙◌, arith, length-append}
+use Rattle.std.proofs.Common.{◌≡◌, ◌≢◌, ◌+◌, ◌-◌, ◌*◌, ◌/◌, ◌%◌, ◌<◌, ◌≤◌, ℕ, List, ◌++◌, length, Some, refl, sym, ap, subst, inl, inr}
+use Rattle.std.proofs.Common.{◌∙◌, arith, length-append}
 use Rattle.std.specs.Prelude.{◌⊎◌, Contains, IsTrue, slice_index}
 use Rattle.std.proofs.Math.Nat.{div-eq_of_lt, mod-eq_of_lt, mul_assoc, mul_comm}
 use Rattle.std.proofs.lemmas.Bool.{cases_lt}
@@ -49,8 +50,10 @@ WritesStream-before a b c spot at mid xs ys e first second =
       ];
       others = λ t i out.
           subst (λ n. stored_byte c.cluster n spot i ≡ stored_byte b.cluster n spot i) size
-          (second.others (told t) i (elim out as (λ _. (i < at) ⊎ (at + length xs ≤ i)) [ inl low ↦ inl low | inr high ↦ inr (omega (arith, high, len)) ]))
-          ∙ first.others t i (elim out as (λ _. (i < mid) ⊎ (mid + length ys ≤ i)) [ inl low ↦ inl (omega (arith, low, e)) | inr high ↦ inr (omega (arith, high, e, len)) ]);
+          (second.others (told t) i
+          (elim out as (λ _. (i < at) ⊎ (at + length xs ≤ i)) [ inl low ↦ inl low | inr high ↦ inr (omega (arith, high, len)) ]))
+          ∙ first.others t i (elim out as (λ _. (i < mid) ⊎ (mid + length ys ≤ i))
+          [ inl low ↦ inl (omega (arith, low, e)) | inr high ↦ inr (omega (arith, high, e, len)) ]);
     }
 
 -- A sector that was written differs in a piece alone: that piece was written.
@@ -69,7 +72,8 @@ module _ (old new : VolumeView) (spot : ℕ → Spot) (from skip : ℕ) (bytes p
     copies = w.copies;
     rest = w.rest;
     clusters = λ c out. w.clusters c (λ i within e. out (from + skip) (omega arith, omega (arith, some))
-        (ap spot (one (from + skip) (omega arith, omega (arith, some, inside)) ∙ sym (one i (within.0, omega (arith, within.1, len)))) ∙ e));
+        (ap spot (one (from + skip) (omega arith, omega (arith, some, inside)) ∙ sym (one i (within.0, omega (arith, within.1, len))))
+        ∙ e));
     here = λ told i within.
         let k : i - from ≡ skip + (i - (from + skip)) = omega (arith, within.0) in
         w.here told i (omega (arith, within.0), omega (arith, within.1, inside, len))
@@ -156,7 +160,8 @@ module _ (layout : TableLayout) (spot : ℕ → Spot) (at cluster skip : ℕ) (p
       let size = cluster_bytes layout in
       let w = in-sector j lt in
       let q : (512 * (at / 512) + j) / size ≡ vcn = ap (λ n. n / size) w ∙ div-mul-add vcn size (skip - skip % 512 + j) (in-cluster j lt) in
-      let r : (512 * (at / 512) + j) % size ≡ skip - skip % 512 + j = ap (λ n. n % size) w ∙ mod-mul-add vcn size (skip - skip % 512 + j) (in-cluster j lt) in
+      let r : (512 * (at / 512) + j) % size ≡ skip - skip % 512 + j =
+      ap (λ n. n % size) w ∙ mod-mul-add vcn size (skip - skip % 512 + j) (in-cluster j lt) in
       ap (λ n. byte_there clusters (spot n) ((512 * (at / 512) + j) % size)) q
       ∙ ap (λ s. byte_there clusters s ((512 * (at / 512) + j) % size)) lies ∙ ap (slice_index (clusters cluster)) r
 

@@ -1,5 +1,6 @@
 -- Bytes written into the clusters of a stream, piece by piece, each in one sector.
-use Rattle.std.proofs.Common.{◌≡◌, ◌+◌, ◌-◌, ◌/◌, ◌%◌, ◌<◌, ◌≤◌, ◌++◌, ℕ, List, drop, inl, inr, ap, length, length-drop, ◌∙◌, sym, subst, take, arith}
+use Rattle.std.proofs.Common.{◌≡◌, ◌+◌, ◌-◌, ◌/◌, ◌%◌, ◌<◌, ◌≤◌, ◌++◌, ℕ, List, drop, inl, inr, ap, length, length-drop, ◌∙◌, sym}
+use Rattle.std.proofs.Common.{subst, take, arith}
 use Rattle.std.specs.Prelude.{IsTrue, slice_range}
 use Rattle.std.proofs.Math.Seq.{take-add}
 use Rattle.std.proofs.lemmas.Bool.{cases_lt}
@@ -51,7 +52,8 @@ written-next a b c spot at done place len bytes piece fits e is long first secon
     (WritesStream-then a b c spot at place (take done bytes) piece (omega (arith, e, front)) one two))
 
 -- THE SECTORS: those in front, and that of the piece
-pub staged-next : {D : Type 0} (g : Ghosts D) (layout now : TableLayout) (spot : ℕ → Spot) (at len place n : ℕ) (a b c : Stage D g) → at ≤ place
+pub staged-next : {D : Type 0} (g : Ghosts D) (layout now : TableLayout) (spot : ℕ → Spot) (at len place n : ℕ) (a b c : Stage D g)
+    → at ≤ place
     → place + n ≤ at + len → now ≡ layout → StagesOnly g (touched_sectors layout spot at len) a b
     → StagesOnly g (touched_sectors now spot place n) b c → StagesOnly g (touched_sectors layout spot at len) a c
 staged-next g layout now spot at len place n a b c low high same first second =
@@ -78,7 +80,8 @@ next-few at done len all old now next lt some fits seam before one =
       omega (arith, before, one, more, few, fits),
     )
 
-pub next-seam : (at place done len all : ℕ) → done < all → place ≡ at + done → len ≤ all - done → (len < all - done → (place + len) % 512 ≡ 0)
+pub next-seam : (at place done len all : ℕ) → done < all → place ≡ at + done → len ≤ all - done
+    → (len < all - done → (place + len) % 512 ≡ 0)
     → IsSeam at (done + len) all
 next-seam at place done len all lt e few aligned = elim (cases_lt len (all - done)) [
   | inl short ↦ let whole = aligned short in inr (inr (omega (arith, whole, e)))

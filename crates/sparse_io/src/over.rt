@@ -1,5 +1,6 @@
 //! Whether bytes go over bytes of a stream that were written before.
-ghost use Rattle.std.specs.Prelude.{◌≡◌, ◌+◌, ◌*◌, ◌/◌, ◌%◌, ◌^◌, ◌<◌, ◌≤◌, ◌==◌, ◌&&◌, not, ℕ, Contains, IfOk, List, MatchBool, count_by, false, length, slice_index, true};
+ghost use Rattle.std.specs.Prelude.{◌≡◌, ◌+◌, ◌*◌, ◌/◌, ◌%◌, ◌^◌, ◌<◌, ◌≤◌, ◌==◌, ◌&&◌, not, ℕ, Contains, IfOk, List, MatchBool, count_by};
+ghost use Rattle.std.specs.Prelude.{false, length, slice_index, true};
 ghost use Rattle.std.specs.List.{range_with_len};
 ghost use Rattle.ntfs_def.specs.Rounded.{clusters_for};
 ghost use Rattle.volume_def.specs.ExtentsClause.{AreAttribute};

@@ -1,5 +1,6 @@
 //! Bytes of a stream are read.
-ghost use Rattle.std.specs.Prelude.{◌≡◌, ◌+◌, ◌-◌, ◌<◌, ◌≤◌, ℕ, IfErr, IfOk, IfSome, IsSomeAnd, IsTrue, List, MatchResult, false, length, min};
+ghost use Rattle.std.specs.Prelude.{◌≡◌, ◌+◌, ◌-◌, ◌<◌, ◌≤◌, ℕ, IfErr, IfOk, IfSome, IsSomeAnd, IsTrue, List, MatchResult};
+ghost use Rattle.std.specs.Prelude.{false, length, min};
 ghost use Rattle.volume_def.specs.CaseClause.{volume_fold};
 ghost use Rattle.volume_def.specs.Files.{parts, records_of};
 ghost use Rattle.volume_def.specs.Readable.{IsFile};

@@ -1,5 +1,6 @@
 //! Bytes of a stream, written over those that stand there.
-ghost use Rattle.std.specs.Prelude.{◌≡◌, ◌⊎◌, ◌∷◌, [], ◌+◌, ◌-◌, ◌*◌, ◌/◌, ◌%◌, ◌<◌, ◌≤◌, ◌^◌, ℕ, false, IfErr, IfOk, IsTrue, List, MatchResult, OnOk, Some, length, slice_index};
+ghost use Rattle.std.specs.Prelude.{◌≡◌, ◌⊎◌, ◌∷◌, [], ◌+◌, ◌-◌, ◌*◌, ◌/◌, ◌%◌, ◌<◌, ◌≤◌, ◌^◌, ℕ, false, IfErr, IfOk, IsTrue, List};
+ghost use Rattle.std.specs.Prelude.{MatchResult, OnOk, Some, length, slice_index};
 ghost use Rattle.ntfs_def.specs.declared.kinds.TheConstants.{DATA};
 ghost use Rattle.ntfs_def.specs.declared.run_text.Spot.{Spot};
 ghost use Rattle.ntfs_def.specs.declared.run_text.Spot.TheVariants.{At};
@@ -223,7 +224,8 @@ fn overwrite_sectors<D: Disk>(
     requires aligned { 0 < length sectors.now → at % 512 ≡ 0 }
     requires whole { length sectors.now % 512 ≡ 0 }
     requires sound { is_mft_broken D.Disk mft.old ≡ false }
-    ensures written { OnOk result (IsTrue (view D.Disk mft.old).told → (table name : List ℕ) → IsHeldWith (view D.Disk mft.old) table file.now
+    ensures written { OnOk result (IsTrue (view D.Disk mft.old).told → (table name : List ℕ)
+        → IsHeldWith (view D.Disk mft.old) table file.now
         → (is : IsStream (view D.Disk mft.old) file.now name found.now)
         → IsWritable (view D.Disk mft.old) (parts_at (view D.Disk mft.old) (file_number file.now) DATA is.part.name) at (length sectors.now)
         → WritesStream (view D.Disk mft.old) (view D.Disk mft.new)
@@ -265,7 +267,8 @@ pub fn overwrite<D: Disk>(
     requires part { found.now.part < length (parts_held file.now) }
     requires fits { at + length bytes.now < 2 ^ 64 }
     requires sound { is_mft_broken D.Disk mft.old ≡ false }
-    ensures written { OnOk result (IsTrue (view D.Disk mft.old).told → (table name : List ℕ) → IsHeldWith (view D.Disk mft.old) table file.now
+    ensures written { OnOk result (IsTrue (view D.Disk mft.old).told → (table name : List ℕ)
+        → IsHeldWith (view D.Disk mft.old) table file.now
         → (is : IsStream (view D.Disk mft.old) file.now name found.now)
         → IsWritable (view D.Disk mft.old) (parts_at (view D.Disk mft.old) (file_number file.now) DATA is.part.name) at (length bytes.now)
         → OverwritesStream (view D.Disk mft.old) (view D.Disk mft.new) (file_number file.now) is.part.name at bytes.now) }

@@ -1,4 +1,5 @@
--- WHERE FLAGS WERE SET OR CLEARED in the bitmap of clusters, the rest of the volume is as it was, and the bitmap can be written in place still.
+-- WHERE FLAGS WERE SET OR CLEARED in the bitmap of clusters, the rest of the volume is as it was,
+-- and the bitmap can be written in place still.
 use Rattle.std.proofs.Common.{◌≡◌, ◌≢◌, ◌*◌, ◌/◌, ◌≤◌, ℕ, Bool, List, [], refl, sym, ap, subst, inl, ◌∙◌}
 use Rattle.std.specs.Prelude.{IsSomeAnd, IsTrue, filter}
 use Rattle.ntfs_def.specs.declared.kinds.TheConstants.{ATTRIBUTE_LIST, DATA}

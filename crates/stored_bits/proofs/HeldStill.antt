@@ -11,7 +11,8 @@ use Rattle.stored_bits.specs.PutFlags.{PutsFlags}
 use Rattle.stored_bits.proofs.BitsStill.{bits-changes, bits-same, own-still, value-still}
 use Rattle.stored_bits.proofs.StreamFound.{held-with}
 
-pub held-still : (value : Bool) (old new : VolumeView) (table : List ℕ) (file : FileParts) (found : FoundStream) → HoldsBits old table file found →
+pub held-still : (value : Bool) (old new : VolumeView) (table : List ℕ) (file : FileParts) (found : FoundStream)
+    → HoldsBits old table file found →
     (at len : ℕ)
     → PutsFlags value old new at len → HoldsBits new table file found
 unfolding own-still

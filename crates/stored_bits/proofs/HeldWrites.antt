@@ -46,7 +46,8 @@ WritesHeld view new file found from bytes = (table name : List ℕ) → IsHeldWi
     → IsWritable view (parts_at view (file_number file) DATA is.part.name) from (length bytes)
     → OverwritesStream view new (file_number file) is.part.name from bytes
 
-pub held-put : (value : Bool) (old new : VolumeView) (table : List ℕ) (file : FileParts) (found : FoundStream) → HoldsBits old table file found →
+pub held-put : (value : Bool) (old new : VolumeView) (table : List ℕ) (file : FileParts) (found : FoundStream)
+    → HoldsBits old table file found →
     (at len : ℕ)
     (was bytes : List ℕ) → IsTrue old.told → 0 < len → at + len ≤ old.layout.clusters → length was ≡ (at + (len - 1)) / 8 - at / 8 + 1
     → length bytes ≡ length was → ((k : ℕ) → at % 8 ≤ k → k < at % 8 + len → bit_in bytes k ≡ bit_for value)

@@ -1,5 +1,6 @@
 -- THE BITMAP OF A SOUND VOLUME, as it is loaded: it is held, where it lies in clusters.
-use Rattle.std.proofs.Common.{◌≡◌, ◌*◌, ◌<◌, ◌≤◌, ◌-◌, ℕ, length, true, false, List, [], Option, Some, None, refl, sym, ap, subst, inl, inr, ◌∙◌, arith}
+use Rattle.std.proofs.Common.{◌≡◌, ◌*◌, ◌<◌, ◌≤◌, ◌-◌, ℕ, length, true, false, List, [], Option, Some, None, refl, sym, ap, subst, inl}
+use Rattle.std.proofs.Common.{inr, ◌∙◌, arith}
 use Rattle.std.specs.Prelude.{IsSomeAnd, filter, is_some}
 use Rattle.std.proofs.lemmas.Bool.{cases_lt}
 use Rattle.ntfs_def.specs.Attribute.{ExtentHeader}

@@ -35,7 +35,8 @@ bit-test : (value : Bool) → (bit_for value == 1) ≡ value
 bit-test true = refl
 bit-test false = refl
 
-module _ (value : Bool) (old new : VolumeView) (h : HasOwnBits old) (at len : ℕ) (s : PutsFlags value old new at len) (clusters records : List Bool)
+module _ (value : Bool) (old new : VolumeView) (h : HasOwnBits old) (at len : ℕ) (s : PutsFlags value old new at len)
+    (clusters records : List Bool)
     (upcase : List ℕ) (stored : AreStored old clusters records upcase) (inside : at + len ≤ old.layout.clusters) where
   abbrev was : List ℕ
   was = value_on old (cluster_bits old)
@@ -115,7 +116,8 @@ unowned-free view clusters records upcase run at sound unowned stored is c low h
     let covered = run-once run at c is low high in
     let inside = unowned.inside c covered in
     let none = unowned.unowned c covered in
-    let clear : (bit_in bits c == 1) ≡ false = ne_eqb (bit_in bits c) 1 (λ set. absurd (omega (arith, none, ((sound ClusterBits c).bit inside).0 set))) in
+    let clear : (bit_in bits c == 1) ≡ false =
+    ne_eqb (bit_in bits c) 1 (λ set. absurd (omega (arith, none, ((sound ClusterBits c).bit inside).0 set))) in
     ap (λ xs. slice_get xs c) stored.clusters_are
     ∙ slice_get-get_or (flags_in bits view.layout.clusters) c false (omega (arith, inside, length-flags bits view.layout.clusters))
     ∙ ap Some (flag-at bits view.layout.clusters c false inside ∙ clear)

@@ -1,6 +1,6 @@
 -- THE FLAGS OF A RANGE SET OR CLEARED in the bytes that hold them, and these written over those of the bitmap.
-use Rattle.std.proofs.Common.{◌≡◌, ◌+◌, ◌-◌, ◌*◌, ◌/◌, ◌%◌, ◌<◌, ◌≤◌, ℕ, Bool, List, drop, get_or, length, take, refl, sym, ap, inl, inr, ◌++◌}
-use Rattle.std.proofs.Common.{◌∙◌, arith}
+use Rattle.std.proofs.Common.{◌≡◌, ◌+◌, ◌-◌, ◌*◌, ◌/◌, ◌%◌, ◌<◌, ◌≤◌, ℕ, Bool, List, drop, get_or, length, take, refl, sym, ap, inl, inr}
+use Rattle.std.proofs.Common.{◌++◌, ◌∙◌, arith}
 use Rattle.std.specs.Int.{bit_at}
 use Rattle.std.specs.Prelude.{◌⊎◌, [], IsTrue, filter, slice_index, slice_range}
 use Rattle.std.proofs.lemmas.Bool.{cases_lt}

@@ -1,5 +1,6 @@
 //! Flags of a range of clusters set or cleared, in memory and in the stored bitmap.
-ghost use Rattle.std.specs.Prelude.{◌≡◌, ◌⊎◌, ◌+◌, ◌-◌, ◌*◌, ◌/◌, ◌<◌, ◌≤◌, ◌^◌, ℕ, Contains, IfErr, IsTrue, List, MatchResult, OnErr, OnOk, false, length, not};
+ghost use Rattle.std.specs.Prelude.{◌≡◌, ◌⊎◌, ◌+◌, ◌-◌, ◌*◌, ◌/◌, ◌<◌, ◌≤◌, ◌^◌, ℕ, Contains, IfErr, IsTrue, List, MatchResult, OnErr};
+ghost use Rattle.std.specs.Prelude.{OnOk, false, length, not};
 ghost use Rattle.vol_stage.specs.Staged.{places};
 ghost use Rattle.mft_table.specs.Mft.{KeepsDisk, committed_of, faults_of, is_mft_broken, mounted_of, stage_of, view};
 ghost use Rattle.file_record.specs.declared.error.FileNo.TheVariants.{Memory};
@@ -127,7 +128,8 @@ pub fn put_range<D: Disk>(
     ensures put { OnOk result (IsTrue (view D.Disk mft.old).told
         → HoldsBits (view D.Disk mft.old) (mounted_of D.Disk mft.old).upcase bits.now.file bits.now.found
         → ShowsStored (view D.Disk mft.old) (mounted_of D.Disk mft.old) → AreAll (not value) (mounted_of D.Disk mft.old).clusters at len
-        → PutsFlags value (view D.Disk mft.old) (view D.Disk mft.new) at len × ShowsStored (view D.Disk mft.new) (mounted_of D.Disk mft.new)) }
+        → PutsFlags value (view D.Disk mft.old) (view D.Disk mft.new) at len
+        × ShowsStored (view D.Disk mft.new) (mounted_of D.Disk mft.new)) }
     ensures stays { OnOk result (IsTrue (view D.Disk mft.old).told
         → HoldsBits (view D.Disk mft.old) (mounted_of D.Disk mft.old).upcase bits.now.file bits.now.found
         → StaysHeld (view D.Disk mft.old) (view D.Disk mft.new) (mounted_of D.Disk mft.new).upcase bits.now.file bits.now.found) }

@@ -1,5 +1,6 @@
 //! Clusters taken.
-ghost use Rattle.std.specs.Prelude.{◌≡◌, ◌⊎◌, ◌∷◌, [], ◌+◌, ◌*◌, ◌<◌, ◌≤◌, ℕ, Contains, IfErr, IsTrue, List, MatchResult, OnOk, Some, false, length, true};
+ghost use Rattle.std.specs.Prelude.{◌≡◌, ◌⊎◌, ◌∷◌, [], ◌+◌, ◌*◌, ◌<◌, ◌≤◌, ℕ, Contains, IfErr, IsTrue, List, MatchResult, OnOk, Some};
+ghost use Rattle.std.specs.Prelude.{false, length, true};
 ghost use Rattle.vol_stage.specs.Staged.{places};
 ghost use Rattle.volume_edits.specs.Owners.{HasOwners};
 ghost use Rattle.cluster_bitmap.specs.Flags.{IsFree};

@@ -1,8 +1,8 @@
 -- WHAT IS WANTED OF A STREAM that is to have another length or to go, before room or bits are asked for, by what is found of the file that
 -- is held: the refusals in their order; the way in which it can; and whether it is a value of a file without an attribute list, and has
 -- room.
-use Rattle.std.proofs.Common.{◌≡◌, ◌⊎◌, ◌<◌, ◌≤◌, ◌&&◌, ◌||◌, ◌==◌, ◌+◌, ◌/◌, ◌%◌, ℕ, Bool, true, false, List, Option, Some, None, Result, Ok, Err}
-use Rattle.std.proofs.Common.{not, refl, sym, ap, subst, inl, inr, ◌∙◌}
+use Rattle.std.proofs.Common.{◌≡◌, ◌⊎◌, ◌<◌, ◌≤◌, ◌&&◌, ◌||◌, ◌==◌, ◌+◌, ◌/◌, ◌%◌, ℕ, Bool, true, false, List, Option, Some, None, Result}
+use Rattle.std.proofs.Common.{Ok, Err, not, refl, sym, ap, subst, inl, inr, ◌∙◌}
 use Rattle.std.proofs.lemmas.Bool.{and_parts, le-leb, lt-leb, not-true, or_left, or_right}
 use Rattle.std.specs.Prelude.{IfOk, IfSome, IsSomeAnd, MatchResult, if◌then◌else◌, is_some, length, nat_le, slice_get}
 use Rattle.std.specs.List.{list_any}
@@ -42,7 +42,8 @@ use Rattle.file_room.proofs.StreamLaws.{other-stream, refused-directory}
 use Rattle.tree_edit.proofs.MovableLaws.{to-alone}
 use Rattle.tree_edit.specs.Alone.{can_drop, can_end, can_give, can_resize, can_end_there, can_move_to, parts_there}
 use Rattle.tree_edit.specs.Change.{TellsFit, has_room_for}
-use Rattle.tree_edit.specs.Decided.{EditsSo, can_drop_by, can_drop_so, can_resize_by, can_resize_so, drop_decided, drop_shared_to, if_can, resize_decided, resize_ranged_to}
+use Rattle.tree_edit.specs.Decided.{EditsSo, can_drop_by, can_drop_so, can_resize_by, can_resize_so, drop_decided, drop_shared_to}
+use Rattle.tree_edit.specs.Decided.{if_can, resize_decided, resize_ranged_to}
 use Rattle.tree_edit.specs.Settable.{is_editable}
 use Rattle.tree_edit.specs.Writable.{AreNames, DecidesEdit, DecidesOver, FindsToWrite, GivesBack, IsMountedAs, kept_from_writing, named_in}
 use Rattle.tree_edit.specs.Writable.{stream_to_write}
@@ -109,7 +110,8 @@ module _ (view : VolumeView) (held : BaseFile) (n : IsNodeHeld view held) where
         → wanted ≡ Err no.Unbuilt
     resize-missing none near kept =
         resize-shared None none near None kept
-        ∙ ap (λ b. if_can b f) (ap (λ b. (b && room_in view name size f) || can_end_there view name size f) (drop-missing view held n name 0 0 none)
+        ∙ ap (λ b. if_can b f)
+        (ap (λ b. (b && room_in view name size f) || can_end_there view name size f) (drop-missing view held n name 0 0 none)
         ∙ ap (λ b. (b && (gets_no_longer size (content_named (read view) name (node_of (read view) f))
         || ends_in_last (cluster_bytes view.layout) (stream_parts view (read view) (named_in (read view) name f)) size))
         || can_move_to view name size f) (give-missing view held n name 0 0 none)
@@ -205,7 +207,8 @@ module _ (view : VolumeView) (mounted : Mounted) (held : BaseFile) (mounts : IsM
 
   pub drop-decided : {E : Type 0} (way : Result (Option Way) E) (wanted : Result ℕ No) (result : Result Writable No)
       → IfOk way (EditsSo (can_drop_by view name) (can_drop_so view name number) number)
-      → MatchResult result (λ found. way ≡ Ok (Some found.way)) (λ refused. ((way ≡ Ok None) × (refused ≡ no.Unbuilt)) ⊎ (refused ≡ no.Memory))
+      → MatchResult result (λ found. way ≡ Ok (Some found.way))
+      (λ refused. ((way ≡ Ok None) × (refused ≡ no.Unbuilt)) ⊎ (refused ≡ no.Memory))
       → IfOk result (λ given. GivesBack given held found given.way) → IsPlainStream view held name found
       → wanted ≡ if_can (can_drop_so view name number) number → DecidesEdit (can_drop_by view name) wanted view held name result
   drop-decided way wanted result so given back plain e =
@@ -245,7 +248,8 @@ module _ (view : VolumeView) (mounted : Mounted) (held : BaseFile) (mounts : IsM
         → IfOk way (EditsSo (can_resize_by view name size) (can_resize_so view name size number) number)
         → MatchResult result (λ found. way ≡ Ok (Some found.way)) (λ refused. ((way ≡ Ok None) × (refused ≡ no.Unbuilt))
         ⊎ (refused ≡ no.Memory)) → IfOk result (λ given. GivesBack given held found given.way) → IsPlainStream view held name found
-        → wanted ≡ if_can (can_resize_so view name size number) number → DecidesEdit (can_resize_by view name size) wanted view held name result
+        → wanted ≡ if_can (can_resize_so view name size number) number
+        → DecidesEdit (can_resize_by view name size) wanted view held name result
     resize-decided way wanted result so given back plain e =
         let over = given-over way result given (can_resize_by view name size) (can_resize_so view name size number) number resize-some so in
         ways-decided view mounted (cluster_bytes view.layout) held mounts sound n name found is (can_resize_by view name size)
@@ -328,6 +332,7 @@ module _ (view : VolumeView) (mounted : Mounted) (held : BaseFile) (mounts : IsM
           (named_in (read view) name number)) size) (content-is view held n name found is)
           ∙ ap (λ k. nat_le size k || fits_in_record view number (stream_parts view (read view) (named_in (read view) name number)) size)
           (sym is.size ∙ found-size view table name held.parts found h is a at names value.0 value.1)
-          ∙ ap (λ (ps : List Part). nat_le size (length value.0) || fits_in_record view number ps size) (parts-are view held n name found is)
+          ∙ ap (λ (ps : List Part). nat_le size (length value.0) || fits_in_record view number ps size)
+          (parts-are view held n name found is)
           ∙ ap (λ (o : Option (List ℕ)). nat_le size (length value.0)
           || nat_le (size + 7) (option_map_or length o 0 + free_bytes view number)) (there ∙ value.1))

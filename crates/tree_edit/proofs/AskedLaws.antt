@@ -1,5 +1,6 @@
 -- ROOM IS ASKED FOR behind what was decided: for a stream that gets longer, and for bytes that go into a value.
-use Rattle.std.proofs.Common.{◌≡◌, ◌&&◌, ◌||◌, ◌+◌, ◌<◌, ◌≤◌, ℕ, Bool, true, false, not, List, Option, Some, None, Result, Ok, Err, inl, inr, length, max, refl, sym, ap, subst, ◌∙◌, arith}
+use Rattle.std.proofs.Common.{◌≡◌, ◌&&◌, ◌||◌, ◌+◌, ◌<◌, ◌≤◌, ℕ, Bool, true, false, not, List, Option, Some, None, Result, Ok, Err, inl}
+use Rattle.std.proofs.Common.{inr, length, max, refl, sym, ap, subst, ◌∙◌, arith}
 use Rattle.std.proofs.lemmas.Bool.{and_parts, le-ltb, lt-ltb}
 use Rattle.std.specs.List.{range_with_len}
 use Rattle.std.specs.Prelude.{IsTrue, if◌then◌else◌, is_some, nat_lt, option_and_then}
@@ -38,8 +39,10 @@ use Rattle.file_room.specs.Stop.{Stop}
 use Rattle.file_room.specs.Stop.TheVariants as stop
 use Rattle.file_room.proofs.GivesLaws.{both, tells}
 use Rattle.file_room.proofs.NodeLaws.{held-with}
-use Rattle.tree_edit.specs.Alone.{IsResizable, asked_to_drop, asked_to_resize, bits_asked, can_drop, can_end, can_give, can_resize, drop_in, drop_wanted, if_room, resize_in, resize_wanted, room_to_resize, can_end_there}
-use Rattle.tree_edit.specs.Decided.{IsWritableSo, asked_to_write, drop_decided, drop_found, hwrite_decided, if_can, resize_decided, resize_found, write_decided, write_found}
+use Rattle.tree_edit.specs.Alone.{IsResizable, asked_to_drop, asked_to_resize, bits_asked, can_drop, can_end, can_give, can_resize, drop_in}
+use Rattle.tree_edit.specs.Alone.{drop_wanted, if_room, resize_in, resize_wanted, room_to_resize, can_end_there}
+use Rattle.tree_edit.specs.Decided.{IsWritableSo, asked_to_write, drop_decided, drop_found, hwrite_decided, if_can, resize_decided}
+use Rattle.tree_edit.specs.Decided.{resize_found, write_decided, write_found}
 use Rattle.tree_edit.specs.Punchable.{can_punch}
 use Rattle.tree_edit.specs.Writable.{IsFoundToEdit, can_write_over, kept_from_writing, named_in, stream_to_write}
 use Rattle.tree_edit.specs.Write.{can_reach_there, hwrite_in, room_to_reach, room_to_write, write_in, write_wanted}
@@ -100,7 +103,8 @@ module _ (file : ℕ) (far : Bool) (kept : Option No) where
   written-last (Ok x) over can reach bits room behind asked e = by far kept over can reach bits e
     where
       by : (far : Bool) (kept : Option No) (over can reach bits : Bool)
-          → asked file ≡ (if over then None else if can then room file else option_or (if bits then None else Some no.Unbuilt) (behind file))
+          → asked file ≡ (if over then None else if can then room file else
+          option_or (if bits then None else Some no.Unbuilt) (behind file))
           → (if far then Err no.TooBig else option_map_or Err kept
           (if over then Ok file else if can then if_room (room file) file
           else if reach && bits then if_room (behind file) file else Err no.Unbuilt))
@@ -204,7 +208,8 @@ pub asked-none : (o : Option No) → has_room o ≡ Ok tt → o ≡ None
 asked-none None e = refl
 asked-none (Some refused) e = cc
 
-pub asked-known : {D : Type 0} (g : Ghosts D) (first : VolumeView → Result ℕ No) (room : VolumeView → ℕ → Option No) {old middle new : Mft D g}
+pub asked-known : {D : Type 0} (g : Ghosts D) (first : VolumeView → Result ℕ No)
+    (room : VolumeView → ℕ → Option No) {old middle new : Mft D g}
     (f : ℕ) (Known : VolumeView → Type 0) → Answered g old middle first (Ok f)
     → Gives g middle new (λ volume given. Known volume → Says (has_room (room volume f)) given) (Ok tt)
     → IsTrue (view g old).told → Known (view g old) → room (view g old) f ≡ None
@@ -236,7 +241,8 @@ module _ (view : VolumeView) (found : Writable) (name : List ℕ) (size : ℕ) (
       → is_some (stream_value (parts_named view (file_number found.held.parts) s.stream.name)) ≡ true
       → clusters ≡ new_clusters bytes (parts_named view (file_number found.held.parts) s.stream.name) from len) where
     pub room-clusters : no_room_alone view f_ clusters
-        ≡ no_room_alone view f_ (new_clusters (cluster_bytes view.layout) (stream_parts view (read view) (named_in (read view) name f_)) from len)
+        ≡ no_room_alone view f_
+        (new_clusters (cluster_bytes view.layout) (stream_parts view (read view) (named_in (read view) name f_)) from len)
     room-clusters =
         ap (no_room_alone view f_) (counted view table name (held-with view found.held is.held table refl) stream found-value
         ∙ ap (λ b. new_clusters b (parts_named view f_ stream.stream.name) from len) of_volume
@@ -325,7 +331,8 @@ pub asks-both : (first second : Option No) → first ≡ None → option_or firs
 asks-both None second e = refl
 asks-both (Some no_) second e = cc
 
-pub refuses-first : (first second : Option No) (why : Stop) → Says (has_room first) (Err why) → Says (has_room (option_or first second)) (Err why)
+pub refuses-first : (first second : Option No) (why : Stop) → Says (has_room first) (Err why)
+    → Says (has_room (option_or first second)) (Err why)
 refuses-first None second stop.Device says = tt
 refuses-first None second (stop.No refused) (inl e) = cc
 refuses-first None second (stop.No refused) (inr memory) = inr memory

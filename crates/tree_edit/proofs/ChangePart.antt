@@ -1,7 +1,7 @@
 -- A PART THAT IS CHANGED, OR GOES, of a file that was loaded for that: where it stands among the records that are held, and what the call
 -- on that record says of the volume.
-use Rattle.std.proofs.Common.{◌≡◌, ◌+◌, ◌-◌, ◌*◌, ◌<◌, ◌≤◌, ℕ, Bool, true, false, zero, suc, max, List, [], ◌∷◌, get_or, length, take, Option, Some, None, inl}
-use Rattle.std.proofs.Common.{inr, refl, sym, ap, subst, ◌∙◌, arith}
+use Rattle.std.proofs.Common.{◌≡◌, ◌+◌, ◌-◌, ◌*◌, ◌<◌, ◌≤◌, ℕ, Bool, true, false, zero, suc, max, List, [], ◌∷◌, get_or, length, take}
+use Rattle.std.proofs.Common.{Option, Some, None, inl, inr, refl, sym, ap, subst, ◌∙◌, arith}
 use Rattle.std.specs.List.{flat_map}
 use Rattle.std.specs.Option.{option_map_or}
 use Rattle.std.specs.Prelude.{All, Contains, IsSome, IsSomeAnd, IsTrue, OnErr, OnOk, Result, slice_get}
@@ -248,7 +248,8 @@ module _ (file : FileParts) (k left i : ℕ) (inside : k < length (held_of file)
           let wrong = of-record (λ held. false ≡ fits_in held.block left size) not in
           cc
 
-      pub is-part : (was : Attribute) → slice_get (attributes (opened_record old one.number)) left ≡ Some was → part_of one.number was ≡ part
+      pub is-part : (was : Attribute) → slice_get (attributes (opened_record old one.number)) left ≡ Some was
+          → part_of one.number was ≡ part
       is-part was at =
           some_same (sym (part-of was (ap (λ (xs : List Attribute). slice_get xs left) current ∙ at)) ∙ part-held)
 
@@ -259,7 +260,8 @@ module _ (file : FileParts) (k left i : ℕ) (inside : k < length (held_of file)
           → Told (view g a) one.number
       in-each Told apart initialized tells =
           let all = subst (λ (v : VolumeView). IsTrue v.told → IsApart v.layout → IsWholeFile v file
-          → RecordHeld file k (λ held. 1024 * held.number + 1024 ≤ v.layout.initialized → Told v held.number)) same tells told apart whole in
+          → RecordHeld file k (λ held. 1024 * held.number + 1024 ≤ v.layout.initialized → Told v held.number))
+          same tells told apart whole in
           of-record (λ held. 1024 * held.number + 1024 ≤ old.layout.initialized → Told old held.number) all
           (initialized one.number record-own)
 

@@ -95,7 +95,8 @@ module _ (view : VolumeView) (mounted : Mounted) (size : ℕ) (held : BaseFile) 
         let node : set.can.node ≡ node_by view n.base (parts_in held) =
         let a = set.can.can.there in let b = sym (node_of-read view number) ∙ n.node in cc in
         subst (λ (w : Writable). IsFoundToEdit view w name can)
-        (ap (λ (h : BaseFile). record { held = h; stream = found; way = result.way; times = result.times; flags = result.flags }) (sym back.held_is)
+        (ap (λ (h : BaseFile). record { held = h; stream = found; way = result.way; times = result.times; flags = result.flags })
+        (sym back.held_is)
         ∙ ap (λ (s : FoundStream). record { held = result.held; stream = s; way = result.way; times = result.times; flags = result.flags })
         (sym back.stream_is))
         (record {
@@ -130,7 +131,8 @@ module _ (view : VolumeView) (mounted : Mounted) (size : ℕ) (held : BaseFile) 
   pub ways-decided : (can : Way → ℕ → Bool) (some : Bool) → ((way : Way) → can way number ≡ true → is_editable mounted held.parts ≡ true)
       → (wanted : Result ℕ No) (result : Result Writable No) → DecidesOver some result
       → IfOk result (λ given. GivesBack given held found given.way) → IfOk result (λ given. can given.way number ≡ true)
-      → IsPlainStream view held name found → wanted ≡ (if some then Ok number else Err no.Unbuilt) → DecidesEdit can wanted view held name result
+      → IsPlainStream view held name found → wanted ≡ (if some then Ok number else Err no.Unbuilt)
+      → DecidesEdit can wanted view held name result
   ways-decided can some editable wanted (Ok given) over back so plain e = (
     e ∙ ap (λ b. if b then Ok number else Err no.Unbuilt) over,
     back.held_is,

@@ -29,7 +29,8 @@ some-of None told = cc
 some-of (Some x) told = (x, refl)
 
 module _ {D : Type 0} (g : Ghosts D) (old new : Mft D g) (path : List (List ℕ)) (reached : Reached)
-    (walked : Answered g old new (λ v. resolve (read v) path) (Ok reached.found)) (number : number_of reached.held ≡ found_file reached.found)
+    (walked : Answered g old new (λ v. resolve (read v) path) (Ok reached.found))
+    (number : number_of reached.held ≡ found_file reached.found)
     (held : IsTrue (view g old).told → IsNodeHeld (view g old) reached.held) (volume : IsInUse g old) where
   abbrev can : Bool
   can = is_editable (mounted_of g new) reached.held.parts
@@ -42,14 +43,16 @@ module _ {D : Type 0} (g : Ghosts D) (old new : Mft D g) (path : List (List ℕ)
 
   pub answered-refused : can ≡ false → Answered g old new (λ v. settable (is_whole_table v) (read v) path) (Err (stop.No no.Unbuilt))
   answered-refused not_so =
-      follows g (λ v. resolve (read v) path) (λ v found. if cannot_edit (is_whole_table v) (read v) (found_file found) then Err no.Unbuilt else Ok (found_file found))
+      follows g (λ v. resolve (read v) path) (λ v found. if cannot_edit (is_whole_table v) (read v) (found_file found) then Err no.Unbuilt
+      else Ok (found_file found))
       reached.found (Err (stop.No no.Unbuilt)) walked
       (at_once refl (λ told. inl (ap (λ b. if b then Err no.Unbuilt else Ok (found_file reached.found)) (decided told ∙ ap not not_so))))
 
   pub answered-found : (f : ℕ) → f ≡ number_of reached.held → can ≡ true
       → Answered g old new (λ v. settable (is_whole_table v) (read v) path) (Ok f)
   answered-found f is so =
-      follows g (λ v. resolve (read v) path) (λ v found. if cannot_edit (is_whole_table v) (read v) (found_file found) then Err no.Unbuilt else Ok (found_file found))
+      follows g (λ v. resolve (read v) path) (λ v found. if cannot_edit (is_whole_table v) (read v) (found_file found) then Err no.Unbuilt
+      else Ok (found_file found))
       reached.found (Ok f) walked
       (at_once refl (λ told.
       ap (λ b. if b then Err no.Unbuilt else Ok (found_file reached.found)) (decided told ∙ ap not so) ∙ ap Ok (sym (is ∙ number))))
@@ -63,5 +66,6 @@ module _ {D : Type 0} (g : Ghosts D) (old new : Mft D g) (path : List (List ℕ)
       let before : is_editable (mounted_of g old) reached.held.parts ≡ true =
       subst (λ (m : Mounted). is_editable m reached.held.parts ≡ true) walked.only.mounted so in
       subst (λ k. IsSettable (view g old) (record { number = k; times = times })) (sym is)
-      (can-settable (view g old) (mounted_of g old) reached.held (held told) (volume told).sound refl refl bytes.0 times (of_image bytes.0 bytes.1)
+      (can-settable (view g old) (mounted_of g old) reached.held (held told) (volume told).sound refl refl bytes.0 times
+      (of_image bytes.0 bytes.1)
       before same)

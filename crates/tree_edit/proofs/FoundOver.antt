@@ -101,7 +101,8 @@ module _ (view : VolumeView) (held : BaseFile) (n : IsNodeHeld view held) (name 
       ∙ ap (λ b. (b && (gets_no_longer (at + len) (content_named (read view) name (node_of (read view) number))
       || fits_in_record view number (stream_parts view (read view) (named_in (read view) name number)) (at + len)))
       || can_reach_there view name at len number) (drop-missing e)
-      ∙ ap (λ b. (b && can_reach view number (parts_there view name number) at len) || can_move_there view name at len number) (give-missing e)
+      ∙ ap (λ b. (b && can_reach view number (parts_there view name number) at len) || can_move_there view name at len number)
+      (give-missing e)
       ∙ and_right (nat_le at (stream_value_len (parts_there view name number))) _
       (ap (λ b. b && (not (can_resize view name (at + len) number) && can_leave view number (parts_there view name number) (at + len)
       (new_clusters (cluster_bytes view.layout) (parts_there view name number) at len))) (drop-missing e))

@@ -1,5 +1,6 @@
 -- WHETHER THE STREAM THAT WAS FOUND CAN MOVE INTO CLUSTERS: by its size, its attribute, and the bytes that are free beside it.
-use Rattle.std.proofs.Common.{◌≡◌, ◌&&◌, ◌||◌, ◌+◌, ◌<◌, ◌≤◌, ◌==◌, not, ℕ, Bool, true, false, List, length, Option, Some, inl, inr, refl, sym, ap, subst, ◌∙◌, arith}
+use Rattle.std.proofs.Common.{◌≡◌, ◌&&◌, ◌||◌, ◌+◌, ◌<◌, ◌≤◌, ◌==◌, not, ℕ, Bool, true, false, List, length, Option, Some, inl, inr, refl}
+use Rattle.std.proofs.Common.{sym, ap, subst, ◌∙◌, arith}
 use Rattle.std.specs.Prelude.{IfNone, IfSome, IsSomeAnd, is_some, nat_le, nat_lt, slice_get}
 use Rattle.std.specs.List.{count_by, list_any}
 use Rattle.std.specs.Option.{option_map_or}
@@ -117,7 +118,8 @@ module _ (view : VolumeView) (held : BaseFile) (n : IsNodeHeld view held) (name 
 
   -- BY ITS ATTRIBUTE
   module _ (names : AreNames (parts_in held)) (a : Attribute)
-      (at : IsSomeAnd (slice_get (parts_in held) found.part) (λ part. part ≡ part_of part.holder a)) (dropped : can_drop view name number ≡ true) where
+      (at : IsSomeAnd (slice_get (parts_in held) found.part) (λ part. part ≡ part_of part.holder a))
+      (dropped : can_drop view name number ≡ true) where
     here : is.part ≡ part_of is.part.holder a
     here = subst (λ (o : Option Part). IsSomeAnd o (λ part. part ≡ part_of part.holder a)) is.at at
 
@@ -171,8 +173,10 @@ module _ (view : VolumeView) (held : BaseFile) (n : IsNodeHeld view held) (name 
 
       leave-is : free ≡ free_bytes view number → can_leave view number there size count ≡ ((clusters_for size cluster == count) && rest)
       leave-is room =
-          ap (λ b. (clusters_for size cluster == count) && (b && (fits_as_extent view number there && has_run_if_room view count))) flags-are
-          ∙ ap (λ b. (clusters_for size cluster == count) && ((a.flags == 0) && (b && has_run_if_room view count))) (sym (fits-is free room))
+          ap (λ b. (clusters_for size cluster == count) && (b && (fits_as_extent view number there && has_run_if_room view count)))
+          flags-are
+          ∙ ap (λ b. (clusters_for size cluster == count) && ((a.flags == 0) && (b && has_run_if_room view count)))
+          (sym (fits-is free room))
 
       some-count : 0 < cluster → (not (count == 0) && ((clusters_for size cluster == count) && rest))
           ≡ ((clusters_for size cluster == count) && rest)
@@ -241,5 +245,6 @@ pub alone-editable : (view : VolumeView) (mounted : Mounted) (held : BaseFile) �
 alone-editable view mounted held mounts sound n name found is dropped =
     let punched = (and_parts (can_punch view name (number_of held)) (has_no_list view (number_of held)) dropped).0 in
     (and_parts (is_editable mounted held.parts) _
-    (sym (edit-is view mounted (cluster_bytes view.layout) held mounts sound n name found is (λ (ps : List Part). is_some (stream_value ps)))
+    (sym (edit-is view mounted (cluster_bytes view.layout) held mounts sound n name found is
+    (λ (ps : List Part). is_some (stream_value ps)))
     ∙ punched)).0

@@ -1,6 +1,7 @@
 -- WHAT IS SAID BY A VALUE THAT CAN MOVE: that it gets longer, that the machine says so too, and that where the room is there that is asked
 -- for, so is a run of as many clusters as its bytes need.
-use Rattle.std.proofs.Common.{◌≡◌, ◌&&◌, ◌||◌, ◌+◌, ◌-◌, ◌<◌, ◌==◌, not, ℕ, Bool, true, false, List, [], Option, Some, None, refl, sym, ap, subst, ◌∙◌, arith}
+use Rattle.std.proofs.Common.{◌≡◌, ◌&&◌, ◌||◌, ◌+◌, ◌-◌, ◌<◌, ◌==◌, not, ℕ, Bool, true, false, List, [], Option, Some, None, refl, sym, ap}
+use Rattle.std.proofs.Common.{subst, ◌∙◌, arith}
 use Rattle.std.specs.Prelude.{if◌then◌else◌, is_some, nat_le, nat_lt, option_and_then, option_map}
 use Rattle.std.specs.Option.{option_map_or}
 use Rattle.std.proofs.lemmas.Bool.{and_parts, eqb-true, le-ltb, leb-false, lt-ltb, ne_eqb, not-true, or_parts}
@@ -46,7 +47,8 @@ regroup-tests true true false room moves bits = refl
 regroup-tests true false none room moves bits = refl
 regroup-tests false value none room moves bits = refl
 
-behind-test : (edits first rest bits more : Bool) → (rest && bits) ≡ (edits && more) → ((first && rest) && bits) ≡ (edits && (first && more))
+behind-test : (edits first rest bits more : Bool) → (rest && bits) ≡ (edits && more)
+    → ((first && rest) && bits) ≡ (edits && (first && more))
 behind-test edits true rest bits more e = e
 behind-test true false rest bits more e = refl
 behind-test false false rest bits more e = refl

@@ -21,7 +21,8 @@ use Rattle.tree_edit.specs.Writable.{IsFoundToEdit, IsMountedAs, can_write_over}
 use Rattle.tree_edit.specs.declared.writable.Writable.{Writable}
 use Rattle.tree_edit.proofs.EditableLaws.{edit-is, editable-not, editable-so, parts-are}
 
-module _ (view : VolumeView) (mounted : Mounted) (size : ℕ) (held : BaseFile) (mounts : IsMountedAs view mounted size) (sound : IsSound view)
+module _ (view : VolumeView) (mounted : Mounted) (size : ℕ) (held : BaseFile)
+    (mounts : IsMountedAs view mounted size) (sound : IsSound view)
     (n : IsNodeHeld view held) (name : List ℕ) (found : FoundStream) (is : IsStream view held.parts name found) (at len : ℕ) where
   abbrev number : ℕ
   number = number_of held

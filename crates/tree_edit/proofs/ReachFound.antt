@@ -1,6 +1,7 @@
--- WHETHER BYTES GO OVER THOSE THAT WERE WRITTEN of a stream in clusters, or right behind them: by the clusters that they need, and by the bytes
--- that are free beside it.
-use Rattle.std.proofs.Common.{◌≡◌, ◌&&◌, ◌==◌, ◌||◌, ◌+◌, ◌<◌, ◌≤◌, ℕ, Bool, true, false, not, List, [], ◌∷◌, length, Option, Some, None, refl, sym, ap, subst, ◌∙◌, arith}
+-- WHETHER BYTES GO OVER THOSE THAT WERE WRITTEN of a stream in clusters, or right behind them: by the clusters that they need, and by the
+-- bytes that are free beside it.
+use Rattle.std.proofs.Common.{◌≡◌, ◌&&◌, ◌==◌, ◌||◌, ◌+◌, ◌<◌, ◌≤◌, ℕ, Bool, true, false, not, List, [], ◌∷◌, length, Option, Some, None}
+use Rattle.std.proofs.Common.{refl, sym, ap, subst, ◌∙◌, arith}
 use Rattle.std.proofs.lemmas.Bool.{and_from, and_parts, eq-eqb, eqb-true, le-leb, le-ltb, lt-ltb, ne_eqb, not-true, or_right}
 use Rattle.std.specs.Prelude.{IfNone, IfSome, IsSomeAnd, if◌then◌else◌, is_some, nat_le, nat_lt, slice_get}
 use Rattle.std.specs.List.{count_by, list_any}
@@ -92,10 +93,12 @@ module _ (view : VolumeView) (held : BaseFile) (n : IsNodeHeld view held) (name 
 
     -- what is told of its parts
     pub told : (Tells : List Part → Type 0) → ((view : VolumeView) (table name : List ℕ) → IsHeldWith view table held.parts
-        → (s : IsStream view held.parts name found) → in_extent (first_part (parts_named view (file_number held.parts) s.stream.name)) ≡ true
+        → (s : IsStream view held.parts name found)
+        → in_extent (first_part (parts_named view (file_number held.parts) s.stream.name)) ≡ true
         → length (parts_named view (file_number held.parts) s.stream.name) ≡ 1
         → Tells (parts_named view (file_number held.parts) s.stream.name)) → Tells named
-    told Tells each = each view (value_on view (case_parts view)) name (held-with view held n (value_on view (case_parts view)) refl) is in-clusters in-one
+    told Tells each = each view (value_on view (case_parts view)) name
+        (held-with view held n (value_on view (case_parts view)) refl) is in-clusters in-one
 
     abbrev goes : List Part → Bool
     goes ps = goes_behind (cluster_bytes view.layout) ps at len

@@ -1,5 +1,6 @@
 -- A STREAM THAT WAS FOUND AS A VALUE: its bytes and where it lies, by its attribute at its place, and the room of the record that holds it.
-use Rattle.std.proofs.Common.{◌≡◌, ◌+◌, ◌-◌, ◌<◌, ◌≤◌, ◌%◌, ℕ, Bool, true, false, cond, List, length, drop, Option, Some, None, refl, sym, ap, subst, ◌∙◌, arith}
+use Rattle.std.proofs.Common.{◌≡◌, ◌+◌, ◌-◌, ◌<◌, ◌≤◌, ◌%◌, ℕ, Bool, true, false, cond, List, length, drop, Option, Some, None, refl, sym}
+use Rattle.std.proofs.Common.{ap, subst, ◌∙◌, arith}
 use Rattle.std.specs.Prelude.{Contains, IfSome, IsSomeAnd, IsTrue, count_by, nat_lt, option_and_then, slice_get, slice_index, slice_range}
 use Rattle.std.specs.Option.{option_map_or}
 use Rattle.std.proofs.lemmas.Bool.{ltb-true}
@@ -9,14 +10,16 @@ use Rattle.list_laws.proofs.FindLaws.{find-found}
 use Rattle.list_laws.proofs.MemberLaws.{Contains-from_flat_map, Contains-from_map}
 use Rattle.list_laws.proofs.OptionLaws.{some-value}
 use Rattle.vol_bytes.proofs.FieldLaws.{u32_at-same}
-use Rattle.ntfs_def.specs.Attribute.{Attribute, Body, NonResident, Resident, attribute_at, attributes, content_bytes, content_end, content_offset, extent_at, is_resident, value_of}
+use Rattle.ntfs_def.specs.Attribute.{Attribute, Body, NonResident, Resident, attribute_at, attributes, content_bytes, content_end}
+use Rattle.ntfs_def.specs.Attribute.{content_offset, extent_at, is_resident, value_of}
 use Rattle.ntfs_def.specs.Fixup.{bare_of, opened_of}
 use Rattle.ntfs_def.specs.Record.{is_in_use, used_size}
 use Rattle.ntfs_def.specs.Shape.{HasShape}
 use Rattle.ntfs_def.proofs.BareRecords.{SameOutside-bare_of}
 use Rattle.attr_view.specs.declared.AttrView.{AttrView}
 use Rattle.attr_view.specs.View.{attribute_of}
-use Rattle.volume_def.specs.Files.{Part, Record, content_of, content_value, file_of, is_base, part_of, parts, record_in, record_of, record_on, records_of}
+use Rattle.volume_def.specs.Files.{Part, Record, content_of, content_value, file_of, is_base, part_of, parts, record_in}
+use Rattle.volume_def.specs.Files.{record_of, record_on, records_of}
 use Rattle.volume_def.specs.ListsClause.{is_list}
 use Rattle.volume_def.specs.Readable.{IsFile, IsReadableVolume}
 use Rattle.volume_def.specs.StreamSize.{real_size}
@@ -92,7 +95,8 @@ formed : (view : VolumeView) (n : ℕ) (r : Record) → IsReadableVolume view �
 unfolding record_in
 formed view n r readable e = by (nat_lt n view.layout.count) refl e
   where
-    inner : (b : Bool) → is_in_use (view.block n) ≡ b → n < view.layout.count → record_in n (view.block n) ≡ Some r → IsWellFormed (view.block n)
+    inner : (b : Bool) → is_in_use (view.block n) ≡ b → n < view.layout.count → record_in n (view.block n) ≡ Some r
+        → IsWellFormed (view.block n)
     inner true used l is = readable.shape n l used
     inner false used l is =
         let none : None ≡ Some r = sym (ap (λ b. cond b (Some (record_of n (opened_of (view.block n)))) None) used) ∙ is in absurd (cc)

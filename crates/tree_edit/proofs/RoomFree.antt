@@ -11,7 +11,8 @@ use Rattle.tree_model.specs.declared.reply.No.{No}
 use Rattle.tree_model.specs.declared.reply.No.TheVariants as no
 
 -- THE LAST of the refusals is none.
-last-none : (a b c : Option No) (lacks : Bool) (refused : No) → option_or a (option_or b (option_or c (option_or (when lacks refused) None))) ≡ None
+last-none : (a b c : Option No) (lacks : Bool) (refused : No)
+    → option_or a (option_or b (option_or c (option_or (when lacks refused) None))) ≡ None
     → lacks ≡ false
 last-none (Some x) b c lacks refused e = cc
 last-none None (Some x) c lacks refused e = cc

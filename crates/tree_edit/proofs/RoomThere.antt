@@ -1,5 +1,6 @@
 -- WHERE ROOM WAS ASKED FOR, AND IS THERE: the clusters that are wanted are free, and so those of a stream that gets longer can be taken.
-use Rattle.std.proofs.Common.{◌≡◌, ◌≤◌, ◌==◌, ◌&&◌, ◌||◌, not, ℕ, Bool, true, false, List, Option, Some, None, inl, inr, refl, sym, ap, ◌∙◌, arith}
+use Rattle.std.proofs.Common.{◌≡◌, ◌≤◌, ◌==◌, ◌&&◌, ◌||◌, not, ℕ, Bool, true, false, List, Option, Some, None, inl, inr, refl, sym}
+use Rattle.std.proofs.Common.{ap, ◌∙◌, arith}
 use Rattle.std.specs.Prelude.{if◌then◌else◌, nat_le, nat_lt}
 use Rattle.std.specs.Option.{option_or}
 use Rattle.std.proofs.lemmas.Bool.{and_from, and_parts, cases_Bool, cases_lt, lt-ltb, ltb-true}
@@ -17,7 +18,8 @@ use Rattle.tree_edit.specs.Alone.{bits_asked, can_give}
 use Rattle.tree_edit.specs.Decided.{IsWritableSo, asked_to_write, can_write_by}
 use Rattle.tree_edit.specs.Writable.{can_write_over, named_in}
 use Rattle.tree_edit.specs.Movable.{IsMovable, can_move_there}
-use Rattle.tree_edit.specs.Write.{IsWritable, can_lie_there, can_write, can_write_behind, can_write_moving, has_run_for, room_to_reach, room_to_write}
+use Rattle.tree_edit.specs.Write.{IsWritable, can_lie_there, can_write, can_write_behind, can_write_moving}
+use Rattle.tree_edit.specs.Write.{has_run_for, room_to_reach, room_to_write}
 use Rattle.tree_edit.specs.declared.writable.Way.{Way}
 use Rattle.tree_edit.specs.declared.writable.Way.TheVariants as way
 use Rattle.tree_edit.specs.declared.writable.Writable.{Writable}
@@ -29,8 +31,10 @@ use Rattle.tree_edit.proofs.MovableLaws.{there-run_counted}
 use Rattle.tree_edit.proofs.WriteFound.{writable-behind, writable-moving}
 
 -- THE RUN IS THERE
-run-there : (view : VolumeView) (f count : ℕ) → can_take view f count ≡ true → count ≤ unowned_clusters view → has_run_for view f count ≡ true
-run-there view f count can enough = by (count == 0) (nat_le 24 (free_bytes view f)) (has_free_run view count) (nat_lt (unowned_clusters view) count)
+run-there : (view : VolumeView) (f count : ℕ) → can_take view f count ≡ true → count ≤ unowned_clusters view
+    → has_run_for view f count ≡ true
+run-there view f count can enough =
+    by (count == 0) (nat_le 24 (free_bytes view f)) (has_free_run view count) (nat_lt (unowned_clusters view) count)
     (le-not enough) can
   where
     le-not : count ≤ unowned_clusters view → nat_lt (unowned_clusters view) count ≡ false
@@ -119,5 +123,6 @@ module _ (view : VolumeView) (found : Writable) (name : List ℕ) (at len : ℕ)
 
   pub to-write : IsWritable view found name at len
   to-write =
-      found-for view found name (λ file. can_write_by view name at len found.way file) (λ file. can_write view name at len found.way file) is
+      found-for view found name (λ file. can_write_by view name at len found.way file)
+      (λ file. can_write view name at len found.way file) is
       (can-by found.way refl is.over)

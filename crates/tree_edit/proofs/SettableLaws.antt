@@ -1,6 +1,6 @@
 -- WHETHER A FILE CAN BE EDITED, by what it tells of its names.
-use Rattle.std.proofs.Common.{◌≡◌, ◌≢◌, ◌≤◌, ◌+◌, ◌*◌, ◌/◌, ◌%◌, ◌==◌, ◌&&◌, ◌||◌, ℕ, zero, suc, not, Bool, true, false, List, ◌++◌, length, filter}
-use Rattle.std.proofs.Common.{Option, Some, None, refl, sym, ap, subst, inl, inr, ◌∙◌, arith}
+use Rattle.std.proofs.Common.{◌≡◌, ◌≢◌, ◌≤◌, ◌+◌, ◌*◌, ◌/◌, ◌%◌, ◌==◌, ◌&&◌, ◌||◌, ℕ, zero, suc, not, Bool, true, false, List, ◌++◌, length}
+use Rattle.std.proofs.Common.{filter, Option, Some, None, refl, sym, ap, subst, inl, inr, ◌∙◌, arith}
 use Rattle.std.proofs.lemmas.Bool.{and_from, and_parts, cases_lt, eqb-true, lt-ltb, ltb-false}
 use Rattle.std.proofs.lemmas.List.Elements.{Contains-append_cases, Contains-append_left, Contains-append_right}
 use Rattle.std.specs.List.{Contains, list_any}
@@ -82,10 +82,12 @@ module _ (view : VolumeView) (f : ℕ) (shown : IsShown view f) (test : Link →
           → list_any leads ((read view).links ++ (read view).hidden) ≡ true
       by x c passes true e =
           let y = kept x c passes (is_hidden_link view) e in
-          any-found leads ((read view).links ++ (read view).hidden) y.0 (Contains-append_right (read view).links (read view).hidden y.0 y.1) y.2
+          any-found leads ((read view).links ++ (read view).hidden) y.0
+          (Contains-append_right (read view).links (read view).hidden y.0 y.1) y.2
       by x c passes false e =
           let y = kept x c passes (λ l. not (is_hidden_link view l)) (ap not e) in
-          any-found leads ((read view).links ++ (read view).hidden) y.0 (Contains-append_left (read view).links (read view).hidden y.0 y.1) y.2
+          any-found leads ((read view).links ++ (read view).hidden) y.0
+          (Contains-append_left (read view).links (read view).hidden y.0 y.1) y.2
 
   back : list_any leads ((read view).links ++ (read view).hidden) ≡ true → list_any test (links_to view f) ≡ true
   unfolding read
@@ -104,14 +106,16 @@ module _ (view : VolumeView) (f : ℕ) (shown : IsShown view f) (test : Link →
         | inl shown ↦ let keep : Link → Bool = λ l. not (is_hidden_link view l) in
             (Contains-from_filter keep all x (Contains-from_in_order (link_above (volume_fold view)) (filter keep all) x shown)).0
         | inr hidden ↦
-            (Contains-from_filter (is_hidden_link view) all x (Contains-from_in_order (link_above (volume_fold view)) (filter (is_hidden_link view) all) x hidden)).0
+            (Contains-from_filter (is_hidden_link view) all x
+            (Contains-from_in_order (link_above (volume_fold view)) (filter (is_hidden_link view) all) x hidden)).0
       ]
 
   pub any-links : list_any leads ((read view).links ++ (read view).hidden) ≡ list_any test (links_to view f)
   any-links = same-truth _ _ back there
 
 -- whether it can be edited, by its links
-pub cannot-told : (view : VolumeView) (f : ℕ) (node : Node) (whole : Bool) (links : List Link) → node_at view f ≡ Some node → links ≡ links_to view f
+pub cannot-told : (view : VolumeView) (f : ℕ) (node : Node) (whole : Bool) (links : List Link) → node_at view f ≡ Some node
+    → links ≡ links_to view f
     → cannot_edit whole (read view) f ≡ (not whole || list_any stands_in_copied links)
 cannot-told view f node whole links at are =
     ap (λ b. not whole || b) (any-links view f (is_shown view f node at) stands_in_copied ∙ ap (list_any stands_in_copied) (sym are))
@@ -121,7 +125,8 @@ pub high-names : (view : VolumeView) (f : ℕ) → list_any stands_in_copied (li
     → (name : FileName) → Contains (names_of (records_of view) f) name → 4 ≤ name.parent.number
 high-names view f none name there =
     ltb-false name.parent.number 4
-    (none-among stands_in_copied (links_to view f) (link_for f name) none (Contains-map (link_for f) (names_of (records_of view) f) name there))
+    (none-among stands_in_copied (links_to view f) (link_for f name) none
+    (Contains-map (link_for f) (names_of (records_of view) f) name there))
 
 -- RECORDS CAN BE WRITTEN, where each was written whole, or not at all.
 pub can-write : (bytes : List ℕ) (view : VolumeView) → IsVolumeOf bytes view → IsSound view → is_whole_table view ≡ true → CanWrite view
@@ -159,7 +164,8 @@ pub not-system : (records : Records) (steps f : ℕ) → leads_to_system records
 not-system records zero f e = e
 not-system records (suc steps) f e = by (is_system f) refl e
   where
-    by : (b : Bool) → is_system f ≡ b → (b || (not (f == ROOT) && list_any (λ name. leads_to_system records steps name.parent.number) (names_of records f))) ≡ false
+    by : (b : Bool) → is_system f ≡ b
+        → (b || (not (f == ROOT) && list_any (λ name. leads_to_system records steps name.parent.number) (names_of records f))) ≡ false
         → is_system f ≡ false
     by true s h = cc
     by false s h = s
@@ -167,7 +173,8 @@ not-system records (suc steps) f e = by (is_system f) refl e
 not-volume : (view : VolumeView) (f : ℕ) → is_hidden (records_of view) f ≡ false → f ≢ VOLUME
 unfolding is_hidden
 not-volume view f shown same =
-    let none : is_system VOLUME ≡ false = subst (λ k. is_system k ≡ false) same (not-system (records_of view) (records_of view).count f shown) in cc
+    let none : is_system VOLUME ≡ false =
+    subst (λ k. is_system k ≡ false) same (not-system (records_of view) (records_of view).count f shown) in cc
 
 -- THE FILE CAN BE EDITED.
 pub settable-there : (bytes : List ℕ) (view : VolumeView) (f : ℕ) (node : Node) (times : List ℕ) → IsVolumeOf bytes view → IsSound view
@@ -221,7 +228,8 @@ module _ (view : VolumeView) (mounted : Mounted) (held : BaseFile) (is : IsNodeH
       ∙ by (is_whole_table view) (mounted.initialized % RECORD == 0) (ap (λ n. n % RECORD == 0) whole)
       ∙ ap (λ b. not ((mounted.initialized % RECORD == 0) && (b && not (list_any stands_in_copied (links_held held.parts))))) (sym inside)
     where
-      by : (a b : Bool) → a ≡ b → (not a || list_any stands_in_copied (links_held held.parts)) ≡ not (b && not (list_any stands_in_copied (links_held held.parts)))
+      by : (a b : Bool) → a ≡ b → (not a || list_any stands_in_copied (links_held held.parts))
+          ≡ not (b && not (list_any stands_in_copied (links_held held.parts)))
       by true true e = last (list_any stands_in_copied (links_held held.parts))
         where
           last : (c : Bool) → c ≡ not (not c)

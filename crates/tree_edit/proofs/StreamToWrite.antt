@@ -93,7 +93,8 @@ module _ (view : VolumeView) (held : BaseFile) (n : IsNodeHeld view held) (name 
 
   -- IT WOULD BE MADE: there is none of the name
   pub missing-of : wanted ≡ Ok None → content ≡ None
-  missing-of e = by content (is_bad_stream_name name) is_of_directory refl (sym (wanted-by content (is_bad_stream_name name) is_of_directory refl refl refl) ∙ e)
+  missing-of e = by content (is_bad_stream_name name) is_of_directory refl
+      (sym (wanted-by content (is_bad_stream_name name) is_of_directory refl refl refl) ∙ e)
     where
       by : (o : Option Content) (bad dir : Bool) → content ≡ o → by_case o bad dir ≡ Ok None → content ≡ None
       by None bad dir same e = same
@@ -103,7 +104,8 @@ module _ (view : VolumeView) (held : BaseFile) (n : IsNodeHeld view held) (name 
       by (Some (Plain bytes)) bad false same e = cc
 
   pub sought-none : wanted ≡ Ok None → sought_stream (volume_fold view) (streams_held view held.parts) name ≡ None
-  sought-none e = by (sought_stream (volume_fold view) (streams_held view held.parts) name) refl (sym (content-held view held n name) ∙ missing-of e)
+  sought-none e = by (sought_stream (volume_fold view) (streams_held view held.parts) name) refl
+      (sym (content-held view held n name) ∙ missing-of e)
     where
       by : (o : Option Stream) → sought_stream (volume_fold view) (streams_held view held.parts) name ≡ o
           → option_map (λ (s : Stream). s.content) o ≡ None → sought_stream (volume_fold view) (streams_held view held.parts) name ≡ None

@@ -19,7 +19,8 @@ use Rattle.file_room.specs.Nodes.{number_of}
 use Rattle.volume_def.specs.Table.{cluster_bytes}
 use Rattle.tree_edit.proofs.MovableLaws.{to-out, to-run_counted}
 use Rattle.tree_edit.specs.Movable.{IsMovableTo}
-use Rattle.tree_edit.specs.Alone.{IsDroppable, IsResizable, IsToDrop, IsToResize, asked_to_drop, asked_to_resize, bits_asked, can_drop, can_end, can_get, can_give, can_go, can_resize, room_to_resize, can_move_to, parts_there}
+use Rattle.tree_edit.specs.Alone.{IsDroppable, IsResizable, IsToDrop, IsToResize, asked_to_drop, asked_to_resize, bits_asked, can_drop}
+use Rattle.tree_edit.specs.Alone.{can_end, can_get, can_give, can_go, can_resize, room_to_resize, can_move_to, parts_there}
 use Rattle.tree_edit.specs.Decided.{IsDroppableSo, IsResizableSo, can_drop_by, can_resize_by}
 use Rattle.tree_edit.specs.Writable.{IsFoundToEdit, named_in}
 use Rattle.tree_edit.specs.declared.writable.Way.{Way}
@@ -28,7 +29,8 @@ use Rattle.tree_edit.specs.declared.writable.Writable.{Writable}
 use Rattle.tree_edit.proofs.EditableLaws.{found-for}
 
 -- what lies in clusters is no value
-no-value : (part : Option Part) → in_extent part ≡ true → is_some (option_and_then (λ (part : Part). content_value part.content) part) ≡ false
+no-value : (part : Option Part) → in_extent part ≡ true
+    → is_some (option_and_then (λ (part : Part). content_value part.content) part) ≡ false
 no-value None e = refl
 no-value (Some part) e = by part.content e
   where
@@ -85,7 +87,8 @@ module _ (view : VolumeView) (name : List ℕ) (file : ℕ) where
   module _ (size : ℕ) where
     pub give-no_resize : can_give view name file ≡ true → can_resize view name size file ≡ false
     give-no_resize give =
-        ap (λ b. b && (gets_no_longer size (content_named (read view) name (node_of (read view) file)) || fits_in_record view file there size))
+        ap (λ b. b && (gets_no_longer size (content_named (read view) name (node_of (read view) file))
+        || fits_in_record view file there size))
         (give-no_value give)
 
     pub cut-no_value : can_end view name size file ≡ true → can_resize view name size file ≡ false
@@ -94,7 +97,8 @@ module _ (view : VolumeView) (name : List ℕ) (file : ℕ) where
     abbrev asked : Bool → Option No
     asked b = if b then room_to_resize view name size file else option_or (bits_asked view) (room_to_resize view name size file)
 
-    pub asked-resize_value : can_resize view name size file ≡ true → asked_to_resize view name size file ≡ room_to_resize view name size file
+    pub asked-resize_value : can_resize view name size file ≡ true
+        → asked_to_resize view name size file ≡ room_to_resize view name size file
     asked-resize_value so = ap asked so
 
     pub asked-resize_bits : can_end view name size file ≡ true
@@ -114,7 +118,8 @@ module _ (view : VolumeView) (name : List ℕ) (file : ℕ) where
     can-get way.InRecord so none = so
     can-get way.InClusters so none =
         and_from (can_end view name size file) (has_placed_bits view) so
-        (placed (has_placed_bits view) (first-none (bits_asked view) (room_to_resize view name size file) (sym (asked-resize_bits so) ∙ none)))
+        (placed (has_placed_bits view)
+        (first-none (bits_asked view) (room_to_resize view name size file) (sym (asked-resize_bits so) ∙ none)))
     can-get way.IntoClusters so none =
         let known = sym (asked-resize_moved so) ∙ none in
         let room = room_to_resize view name size file in

@@ -89,7 +89,8 @@ module _ (view : VolumeView) (name : List ℕ) (from len file : ℕ) where
         (or_from value_there reach_there (sym r ∙ not_value) (or_from lie_there move_there (sym c ∙ not_behind) (sym m ∙ not_moving)))
 
 -- WHAT WAS DECIDED
-module _ (view : VolumeView) (mounted : Mounted) (size : ℕ) (held : BaseFile) (mounts : IsMountedAs view mounted size) (sound : IsSound view)
+module _ (view : VolumeView) (mounted : Mounted) (size : ℕ) (held : BaseFile)
+    (mounts : IsMountedAs view mounted size) (sound : IsSound view)
     (n : IsNodeHeld view held) (name : List ℕ) (found : FoundStream) (is : IsStream view held.parts name found) (at len : ℕ) where
   abbrev number : ℕ
   number = number_of held

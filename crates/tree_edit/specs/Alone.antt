@@ -87,7 +87,8 @@ can_get view name size way.IntoClusters file =
 abbrev pub room_to_resize : VolumeView → List ℕ → ℕ → ℕ → Option No
 room_to_resize view name size file =
     if grows size (content_named (read view) name (node_of (read view) file))
-    then no_room_alone view file (new_clusters (cluster_bytes view.layout) (stream_parts view (read view) (named_in (read view) name file)) 0 0)
+    then no_room_alone view file
+    (new_clusters (cluster_bytes view.layout) (stream_parts view (read view) (named_in (read view) name file)) 0 0)
     else None
 
 abbrev pub if_room : Option No → ℕ → Result ℕ No

@@ -64,7 +64,8 @@ resize_decided view opens name size file =
     (λ bytes. resize_ranged_to (if_can (can_resize_so view name size file) file) opens size file)
 
 abbrev pub resize_found : VolumeView → List OpenEntry → List (List ℕ) → List ℕ → ℕ → Result ℕ No
-resize_found view opens path name size = and_then (resolve (read view) path) (λ found. resize_decided view opens name size (found_file found))
+resize_found view opens path name size =
+    and_then (resolve (read view) path) (λ found. resize_decided view opens name size (found_file found))
 
 -- `rmstream`
 abbrev pub drop_shared_to : Result ℕ No → List OpenEntry → ℕ → Result ℕ No

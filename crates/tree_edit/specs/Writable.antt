@@ -1,6 +1,6 @@
 -- A STREAM THAT IS TO BE EDITED, found in a file that is held.
-use Rattle.std.specs.Prelude.{◌≡◌, ◌⊎◌, ◌%◌, ◌<◌, ◌==◌, ◌&&◌, ◌||◌, ℕ, codes, not, Bool, true, false, List, Option, Some, None, Result, Ok, Err, find, is_some, length, option_map, slice_index, Contains}
-use Rattle.std.specs.Prelude.{if◌then◌else◌}
+use Rattle.std.specs.Prelude.{◌≡◌, ◌⊎◌, ◌%◌, ◌<◌, ◌==◌, ◌&&◌, ◌||◌, ℕ, codes, not, Bool, true, false, List, Option, Some, None, Result, Ok}
+use Rattle.std.specs.Prelude.{Err, find, is_some, length, option_map, slice_index, Contains, if◌then◌else◌}
 use Rattle.ntfs_def.specs.StandardInformation.{standard_times}
 use Rattle.ntfs_def.specs.declared.kinds.TheConstants.{DATA}
 use Rattle.volume_def.specs.Files.{Part}

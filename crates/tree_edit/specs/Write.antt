@@ -60,8 +60,8 @@ can_write_moving view name from len file =
     can_move_there view name from len file
     && (has_placed_bits view && has_free_run view (new_clusters (cluster_bytes view.layout) (parts_there view name file) from len))
 
--- The bytes go over bytes in place, or else into a value that can be as long as they need, or over and behind those of a stream in clusters,
--- or with a value into clusters.
+-- The bytes go over bytes in place, or else into a value that can be as long as they need, or over and behind those of a stream in
+-- clusters, or with a value into clusters.
 abbrev pub can_write : VolumeView → List ℕ → ℕ → ℕ → Way → ℕ → Bool
 can_write view name from len way.InPlace file = can_write_over view name from len file
 can_write view name from len way.InRecord file = not (can_write_over view name from len file) && can_resize view name (from + len) file

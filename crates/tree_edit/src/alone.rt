@@ -1,6 +1,7 @@
 //! A stream of a file without an attribute list, a value or in clusters in one part, which is to have another length or to go, found by the
 //! path of its file.
-ghost use Rattle.std.specs.Prelude.{◌≡◌, ◌⊎◌, ◌≤◌, ◌<◌, ◌^◌, ◌==◌, ℕ, IfOk, IfSome, IsSomeAnd, IsTrue, List, MatchResult, None, Ok, Some, length, slice_get, true};
+ghost use Rattle.std.specs.Prelude.{◌≡◌, ◌⊎◌, ◌≤◌, ◌<◌, ◌^◌, ◌==◌, ℕ, IfOk, IfSome, IsSomeAnd, IsTrue, List, MatchResult, None, Ok, Some};
+ghost use Rattle.std.specs.Prelude.{length, slice_get, true};
 ghost use Rattle.ntfs_def.specs.Rounded.{clusters_for};
 ghost use Rattle.volume_def.specs.Files.{part_clusters};
 ghost use Rattle.vol_disk.specs.Contents.{WhereTold};
@@ -18,7 +19,8 @@ ghost use Rattle.tree_model.specs.declared.reply.No.TheVariants as no;
 ghost use Rattle.file_room.specs.Answered.{Answered, Gives, Says, with_ok};
 ghost use Rattle.file_room.specs.Nodes.{IsNodeHeld, number_of, parts_in};
 ghost use Rattle.file_room.specs.Standings.{IsStanding};
-ghost use Rattle.tree_edit.specs.Alone.{IsToDrop, IsToResize, asked_to_drop, asked_to_resize, can_drop, can_end, can_resize, drop_wanted, resize_wanted};
+ghost use Rattle.tree_edit.specs.Alone.{IsToDrop, IsToResize, asked_to_drop, asked_to_resize, can_drop, can_end};
+ghost use Rattle.tree_edit.specs.Alone.{can_resize, drop_wanted, resize_wanted};
 ghost use Rattle.tree_edit.specs.Decided.{EditsSo, IsDroppableSo, IsResizableSo, can_drop_by, can_drop_so, can_resize_by, can_resize_so};
 ghost use Rattle.tree_edit.specs.Decided.{drop_decided, drop_found, resize_decided, resize_found};
 ghost use Rattle.tree_edit.specs.Writable.{DecidesEdit, GivesBack, IsMountedAs};
@@ -138,8 +140,8 @@ fn ends_in_last(
     Ok(clusters_for(size, cluster_bytes) == total)
 }
 
-// Whether it lies in clusters, in one part of a file that can be edited and has no attribute list, and gets no longer with so many bytes, or
-// ends in its last cluster still.
+// Whether it lies in clusters, in one part of a file that can be edited and has no attribute list, and gets no longer with so many bytes,
+// or ends in its last cluster still.
 fn can_end(
     alloc: Global,
     mounted: &Mounted,
@@ -349,8 +351,9 @@ fn ask_to_resize<D: Disk>(
 ///
 /// The refusal of the first component that is bad; `BadName`, `IsDir`, `Packed` and `TooBig`; `Shared`, where an open of the file does not
 /// share writing; `Unbuilt`, where the file cannot be edited or has an attribute list, the stream is missing, or it is a value that gets
-/// longer, whose record has no room for that, and that cannot move into as many clusters as it would fill now, or it lies in clusters and ends outside its last one then, or in more parts than one, or the
-/// bitmap of clusters is a value; of one that gets longer `TooManyParts`, `MftFull` and `NoRoom`; `Memory`, and `Device` where the disk failed.
+/// longer, whose record has no room for that, and that cannot move into as many clusters as it would fill now, or it lies in clusters and
+/// ends outside its last one then, or in more parts than one, or the bitmap of clusters is a value;
+/// of one that gets longer `TooManyParts`, `MftFull` and `NoRoom`; `Memory`, and `Device` where the disk failed.
 pub fn find_to_resize<D: Disk>(
     alloc: Global,
     mft: &mut Mft<'_, D>,
@@ -416,8 +419,8 @@ fn ask_to_drop<D: Disk>(alloc: Global, mft: &mut Mft<'_, D>, found: &Writable) -
     }
 }
 
-/// The stream of the file that a path leads to, where it can go, as a value or in clusters in one part. `last` is the directory in which the
-/// last path ended, before the call and behind it.
+/// The stream of the file that a path leads to, where it can go, as a value or in clusters in one part. `last` is the directory in which
+/// the last path ended, before the call and behind it.
 ///
 /// # Errors
 ///

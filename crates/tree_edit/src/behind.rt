@@ -50,8 +50,8 @@ fn can_take(mounted: &Mounted, free: usize, count: u64) -> bool
     mounted.clusters.count_free() < count || free_run(&mounted.clusters, count, 0).is_some()
 }
 
-/// Whether the stream that was found lies in clusters, in one part of a file that can be edited and has no attribute list, and so many bytes
-/// from `at` on go over those that were written, or right behind them, where it can take the clusters that it needs.
+/// Whether the stream that was found lies in clusters, in one part of a file that can be edited and has no attribute list, and so many
+/// bytes from `at` on go over those that were written, or right behind them, where it can take the clusters that it needs.
 pub fn is_reachable(
     alloc: Global,
     mounted: &Mounted,

@@ -21,7 +21,8 @@ pub fn clusters_for_bytes(
     requires part { stream.now.part < length (parts_held file.now) }
     requires some { 0 < size }
     requires near { from + len ≤ 2 ^ 40 }
-    ensures clusters { (view : VolumeView) (table name : List ℕ) → IsHeldWith view table file.now → (is : IsStream view file.now name stream.now)
+    ensures clusters { (view : VolumeView) (table name : List ℕ) → IsHeldWith view table file.now
+        → (is : IsStream view file.now name stream.now)
         → is_some (stream_value (parts_named view (file_number file.now) is.stream.name)) ≡ true
         → result ≡ new_clusters size (parts_named view (file_number file.now) is.stream.name) from len }
     ensures few { result ≤ 2 ^ 41 }

@@ -16,7 +16,8 @@ ghost use Rattle.tree_model.specs.Tree.{node_of};
 ghost use Rattle.file_room.specs.Answered.{Answered, Gives, Says, with_ok};
 ghost use Rattle.file_room.specs.Nodes.{IsNodeHeld, number_of, parts_in};
 ghost use Rattle.file_room.specs.Standings.{IsStanding};
-ghost use Rattle.tree_edit.specs.Decided.{EditsSo, IsWritableSo, asked_to_write, can_write_by, can_write_so, hwrite_decided, write_decided, write_found};
+ghost use Rattle.tree_edit.specs.Decided.{EditsSo, IsWritableSo, asked_to_write, can_write_by, can_write_so};
+ghost use Rattle.tree_edit.specs.Decided.{hwrite_decided, write_decided, write_found};
 ghost use Rattle.tree_edit.specs.Writable.{DecidesEdit, DecidesOver, GivesBack, IsMountedAs, can_write_over};
 ghost use Rattle.tree_edit.specs.Write.{IsWritable, hwrite_in, write_wanted};
 

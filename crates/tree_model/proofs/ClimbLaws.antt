@@ -1,6 +1,7 @@
 -- The way up from a directory of a volume that meets the clauses on references and links: it ends at the root, and is no longer than
 -- the volume has directories.
-use Rattle.std.proofs.Common.{◌≡◌, ◌≢◌, ◌⊎◌, inl, inr, ℕ, zero, suc, ◌<◌, ◌≤◌, ◌||◌, Bool, true, false, eqb, List, [], ◌∷◌, length, Option, Some, None, refl, sym, ap, subst, ◌∙◌, arith}
+use Rattle.std.proofs.Common.{◌≡◌, ◌≢◌, ◌⊎◌, inl, inr, ℕ, zero, suc, ◌<◌, ◌≤◌, ◌||◌, Bool, true, false, eqb, List, [], ◌∷◌, length, Option}
+use Rattle.std.proofs.Common.{Some, None, refl, sym, ap, subst, ◌∙◌, arith}
 use Rattle.std.specs.Prelude.{IsSomeAnd, IsTrue, option_map}
 use Rattle.std.specs.List.{AllByRecursion, Contains, IsDistinct, list_any}
 use Rattle.std.proofs.lemmas.Bool.{cases_eq, cases_lt, eqb-true, le-ltb}
@@ -14,7 +15,8 @@ use Rattle.volume_def.specs.ReferencesClause.{MeetsReferences}
 use Rattle.volume_def.specs.View.{VolumeView}
 use Rattle.list_laws.proofs.FindLaws.{find-one}
 use Rattle.tree_model.specs.Hidden.{is_hidden, leads_to_system}
-use Rattle.tree_model.proofs.HiddenLaws.{none-leads, hidden-ordinary, hidden-system, leads-ordinary, leads-root, leads-system, stands-parent}
+use Rattle.tree_model.proofs.HiddenLaws.{none-leads, hidden-ordinary, hidden-system, leads-ordinary}
+use Rattle.tree_model.proofs.HiddenLaws.{leads-root, leads-system, stands-parent}
 use Rattle.tree_model.proofs.ParentLaws.{HasName, name-directory, one-parent}
 use Rattle.tree_model.proofs.ShownLaws.{named-directory, right-links}
 

@@ -11,7 +11,8 @@ use Rattle.tree_model.specs.Hidden.{is_hidden, is_system, leads_to_system}
 use Rattle.list_laws.proofs.FindLaws.{any-found, any-more}
 
 -- a test that answers the same of all items, of which there is one
-any-same : {A : Type 0} (p : A → Bool) (xs : List A) (x : A) (b : Bool) → Contains xs x → ((y : A) → Contains xs y → p y ≡ b) → list_any p xs ≡ b
+any-same : {A : Type 0} (p : A → Bool) (xs : List A) (x : A) (b : Bool) → Contains xs x
+    → ((y : A) → Contains xs y → p y ≡ b) → list_any p xs ≡ b
 any-same p xs x true there same = any-found p xs x there (same x there)
 any-same {A = A} p xs x false there same = none xs same
   where
@@ -86,7 +87,8 @@ module _ (records : Records) where
       by : (b : Bool) → leads_to_system records n name.parent.number ≡ b → leads_to_system records n name.parent.number ≡ false
       by false b = b
       by true b =
-          let g = sym (any-found (λ (other : FileName). leads_to_system records n other.parent.number) (names_of records f) name there b) ∙ e in
+          let g = sym (any-found (λ (other : FileName). leads_to_system records n other.parent.number) (names_of records f) name there b)
+          ∙ e in
           cc
 
   pub hidden-ordinary : (n f : ℕ) → records.count ≡ suc n → FIRST_ORDINARY ≤ f → is_hidden records f ≡ stands_in_system n f

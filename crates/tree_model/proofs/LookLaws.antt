@@ -1,6 +1,6 @@
 -- What is due for commands that read, where no session has an open: it follows what their path leads to.
-use Rattle.std.proofs.Common.{◌≡◌, ◌==◌, ◌&&◌, ◌∷◌, ap, find, not, inl, inr, ℕ, Bool, true, false, List, [], length, nat_lt, Option, Some, None, Result, Ok}
-use Rattle.std.proofs.Common.{Err, refl, sym, ◌∙◌}
+use Rattle.std.proofs.Common.{◌≡◌, ◌==◌, ◌&&◌, ◌∷◌, ap, find, not, inl, inr, ℕ, Bool, true, false, List, [], length, nat_lt, Option, Some}
+use Rattle.std.proofs.Common.{None, Result, Ok, Err, refl, sym, ◌∙◌}
 use Rattle.tree_model.specs.Answers.{answer_of}
 use Rattle.tree_model.specs.Cases.{AsksFor, AsksNothing, conflicts, is_wide}
 use Rattle.tree_model.specs.Opens.{all_access, to_read}

@@ -1,6 +1,6 @@
 -- Which files are hidden, and what a volume reads as of which all files but the root are.
-use Rattle.std.proofs.Common.{◌≡◌, ◌≢◌, ℕ, zero, suc, ◌<◌, ◌==◌, ◌||◌, ◌&&◌, not, Bool, true, false, cond, List, [], ◌∷◌, filter, Option, Some, None}
-use Rattle.std.proofs.Common.{inl, inr, refl, sym, ap, ◌∙◌, arith, if◌then◌else◌}
+use Rattle.std.proofs.Common.{◌≡◌, ◌≢◌, ℕ, zero, suc, ◌<◌, ◌==◌, ◌||◌, ◌&&◌, not, Bool, true, false, cond, List, [], ◌∷◌, filter, Option}
+use Rattle.std.proofs.Common.{Some, None, inl, inr, refl, sym, ap, ◌∙◌, arith, if◌then◌else◌}
 use Rattle.std.specs.Prelude.{option_and_then}
 use Rattle.std.specs.Cmp.{nat_cmp_total}
 use Rattle.std.specs.FinMap as finmap
@@ -27,7 +27,8 @@ use Rattle.list_laws.proofs.FilterLaws.{filter-all, filter-left_out}
 leads-system : (records : Records) (steps f : ℕ) → is_system f ≡ true → leads_to_system records steps f ≡ true
 leads-system records zero f e = e
 leads-system records (suc steps) f e =
-    ap (λ b. b || (not (f == ROOT) && list_any (λ (name : FileName). leads_to_system records steps name.parent.number) (names_of records f))) e
+    ap (λ b.
+    b || (not (f == ROOT) && list_any (λ (name : FileName). leads_to_system records steps name.parent.number) (names_of records f))) e
 
 pub system-hidden : (records : Records) (f : ℕ) → is_system f ≡ true → is_hidden records f ≡ true
 unfolding is_hidden
@@ -86,7 +87,8 @@ module _ (view : VolumeView) (only : OnlyRoot view) where
     where
       one : (q : ℕ) → node_at view q ≡ cond (eq_by_cmp nat_cmp q ROOT) (Some node) None
       one q = elim (cases_eq q ROOT) [
-        | inl e ↦ ap (node_at view) e ∙ root ∙ sym (ap (λ k. cond (eq_by_cmp nat_cmp k ROOT) (Some node) None) e ∙ ap (λ b. cond b (Some node) None) (key_same ROOT))
+        | inl e ↦ ap (node_at view) e ∙ root
+            ∙ sym (ap (λ k. cond (eq_by_cmp nat_cmp k ROOT) (Some node) None) e ∙ ap (λ b. cond b (Some node) None) (key_same ROOT))
         | inr ne ↦ other-node q ne ∙ sym (ap (λ b. cond b (Some node) None) (key_other q ROOT ne))
       ]
 

@@ -1,5 +1,6 @@
 -- What the clauses on references and on links say of the names of directories.
-use Rattle.std.proofs.Common.{◌≡◌, ◌≢◌, ℕ, ◌≤◌, ◌==◌, Bool, true, false, [], Option, Some, None, if◌then◌else◌, refl, sym, ap, subst, ◌∙◌, arith}
+use Rattle.std.proofs.Common.{◌≡◌, ◌≢◌, ℕ, ◌≤◌, ◌==◌, Bool, true, false, [], Option, Some, None, if◌then◌else◌, refl, sym, ap}
+use Rattle.std.proofs.Common.{subst, ◌∙◌, arith}
 use Rattle.std.specs.Prelude.{IfSome, IsSomeAnd, IsTrue, filter, option_map}
 use Rattle.std.specs.List.{Contains, count_by, range_with_len}
 use Rattle.std.proofs.lemmas.Bool.{eqb-true}
@@ -11,7 +12,8 @@ use Rattle.volume_def.specs.Files.{Part, Record, Records, content_value, file_of
 use Rattle.volume_def.specs.LinksClause.{HasRightLinks, IsPairedAmong, is_long_in}
 use Rattle.volume_def.specs.ReferencesClause.{HasRightReferences, MeetsReferences, NamesDirectory}
 use Rattle.list_laws.proofs.FindLaws.{passing, same_passing}
-use Rattle.list_laws.proofs.MemberLaws.{Contains-filter, Contains-from_filter, Contains-from_flat_map, Contains-nil, Contains-from_filter_map, Contains-filter_map}
+use Rattle.list_laws.proofs.MemberLaws.{Contains-filter, Contains-from_filter, Contains-from_flat_map, Contains-nil}
+use Rattle.list_laws.proofs.MemberLaws.{Contains-from_filter_map, Contains-filter_map}
 use Rattle.tree_model.proofs.HiddenLaws.{HasOneParent}
 
 abbrev name_of_part : Part → Option FileName
@@ -46,7 +48,8 @@ module _ (records : Records) where
         number = at.0;
         holder = h.0;
         at = h.1;
-        there = Contains-filter_map name_of_part (filter is_file_name h.0.parts) w.0 name (Contains-filter is_file_name h.0.parts w.0 h.2 p.1) w.2;
+        there = Contains-filter_map name_of_part (filter is_file_name h.0.parts) w.0 name
+            (Contains-filter is_file_name h.0.parts w.0 h.2 p.1) w.2;
       }
 
   both_of : (o : Option Record) (P Q R : Record → Type 0) → IsSomeAnd o (λ r. P r × Q r) → IsSomeAnd o R → IsSomeAnd o (λ r. P r × R r)
@@ -59,7 +62,9 @@ module _ (records : Records) where
   name-directory references f name c =
       let h = name-held f name c in
       let right = subst (λ o. IfSome o (HasRightReferences records)) h.at (references h.number) in
-      let names : NamesDirectory records name.parent = All-contains (λ (other : FileName). NamesDirectory records other.parent) (names_among h.holder.parts) name right.parents h.there in
+      let names : NamesDirectory records name.parent =
+      All-contains (λ (other : FileName). NamesDirectory records other.parent)
+      (names_among h.holder.parts) name right.parents h.there in
       both_of (records.record_at name.parent.number) (λ r. IsTrue (is_base r)) (λ r. r.header.sequence ≡ name.parent.sequence)
       (λ r. IsTrue (is_directory r)) names.0 names.1
 
@@ -74,7 +79,8 @@ module _ (records : Records) where
   long-not-dos : (dir : ℕ) (name : FileName) → is_long_in dir name ≡ true → (is_not_dos name ≡ true) × (name.parent.number ≡ dir)
   long-not-dos dir name e = by (name.namespace == 1) (name.parent.number == dir) refl refl
     where
-      by : (s t : Bool) → (name.namespace == 1) ≡ s → (name.parent.number == dir) ≡ t → (is_not_dos name ≡ true) × (name.parent.number ≡ dir)
+      by : (s t : Bool) → (name.namespace == 1) ≡ s → (name.parent.number == dir) ≡ t
+          → (is_not_dos name ≡ true) × (name.parent.number ≡ dir)
       by true true s t =
           let one = eqb-true name.namespace 1 s in
           (rw one refl, eqb-true name.parent.number dir t)
@@ -95,7 +101,8 @@ module _ (records : Records) where
       }
     where
       by : (one : FileName) → Contains (names_of records f) one → is_not_dos one ≡ true → count_by is_not_dos (names_of records f) ≤ 1
-          → (other : FileName) → Contains (names_of records f) other → (b : Bool) → is_dos other ≡ b → other.parent.number ≡ one.parent.number
+          → (other : FileName) → Contains (names_of records f) other → (b : Bool) → is_dos other ≡ b
+          → other.parent.number ≡ one.parent.number
       by one c not_dos most other there false b =
           ap (λ (n : FileName). n.parent.number)
           (same_passing is_not_dos (names_of records f) other one most there (rw b refl) c not_dos)
@@ -103,7 +110,8 @@ module _ (records : Records) where
           let paired = All-contains (IsPairedAmong (names_of records f)) (names_of records f) other right.paired there in
           let long = passing (is_long_in other.parent.number) (names_of records f) (paired.long b) in
           let is = long-not-dos other.parent.number long.0 long.2 in
-          sym is.1 ∙ ap (λ (n : FileName). n.parent.number) (same_passing is_not_dos (names_of records f) long.0 one most long.1 is.0 c not_dos)
+          sym is.1 ∙ ap (λ (n : FileName). n.parent.number)
+          (same_passing is_not_dos (names_of records f) long.0 one most long.1 is.0 c not_dos)
 
   pub one-parent : (f : ℕ) (has : HasName f) → HasOneParent records f has.name.parent.number
   one-parent f has = record { name = has.name; there = has.there; all = has.all }

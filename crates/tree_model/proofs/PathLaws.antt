@@ -1,5 +1,6 @@
 -- The path to a directory that is shown, step by step.
-use Rattle.std.proofs.Common.{◌≡◌, ◌≢◌, ◌⊎◌, inl, inr, ℕ, zero, suc, ◌≤◌, not, true, false, List, [], ◌∷◌, ◌++◌, map, length, Option, Some, None, IsSome, refl, sym, ap, subst, ◌∙◌, arith}
+use Rattle.std.proofs.Common.{◌≡◌, ◌≢◌, ◌⊎◌, inl, inr, ℕ, zero, suc, ◌≤◌, not, true, false, List, [], ◌∷◌, ◌++◌, map, length, Option, Some}
+use Rattle.std.proofs.Common.{None, IsSome, refl, sym, ap, subst, ◌∙◌, arith}
 use Rattle.std.specs.Prelude.{filter, find, nat_eq, option_map}
 use Rattle.std.specs.Map.{lookup}
 use Rattle.std.proofs.lemmas.Bool.{cases_eq, eq-eqb, ne_eqb}
@@ -111,7 +112,8 @@ module _ (view : VolumeView) where
         let long = way-length view n f c in
         let same = length-map tree.links by_child in
         let short = length-le_from_keys nat_eq_equiv (way view n f c) (map by_child tree.links)
-        (way-distinct view references links n f c is.directory) (λ q e. found q (on-way view (IsShownDirectory view) (shown-up view references links) n f c is q e)) in
+        (way-distinct view references links n f c is.directory)
+        (λ q e. found q (on-way view (IsShownDirectory view) (shown-up view references links) n f c is q e)) in
         omega (arith, long, same, short)
       where
         found : (q : ℕ) → OnWay view (IsShownDirectory view) n q → IsSome (lookup (nat_eq q) (map by_child tree.links))

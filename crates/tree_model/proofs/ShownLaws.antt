@@ -1,5 +1,6 @@
 -- What a link of a directory that is shown leads to.
-use Rattle.std.proofs.Common.{◌≡◌, ◌≢◌, ℕ, suc, ◌≤◌, ◌||◌, not, Bool, true, false, List, [], ◌∷◌, map, Option, Some, None, if◌then◌else◌, refl, sym, ap, subst, ◌∙◌, arith}
+use Rattle.std.proofs.Common.{◌≡◌, ◌≢◌, ℕ, suc, ◌≤◌, ◌||◌, not, Bool, true, false, List, [], ◌∷◌, map, Option, Some, None, if◌then◌else◌}
+use Rattle.std.proofs.Common.{refl, sym, ap, subst, ◌∙◌, arith}
 use Rattle.std.specs.Prelude.{IfSome, IsSomeAnd, IsTrue, filter, option_and_then}
 use Rattle.std.specs.List.{Contains, list_any, range_with_len}
 use Rattle.std.proofs.lemmas.Bool.{eqb-true, ne_eqb}
@@ -38,7 +39,8 @@ named-in : (view : VolumeView) (k : ℕ) (o : Option Record) (l : names.Link) �
 named-in view k None l e c = absurd (Contains-nil l c)
 named-in view k (Some r) l e c = by (is_base r) refl c
   where
-    by : (b : Bool) → is_base r ≡ b → Contains (if b then map (named k r) (names_of (records_of view) k) else []) l → IsNamed view (link_by l)
+    by : (b : Bool) → is_base r ≡ b → Contains (if b then map (named k r) (names_of (records_of view) k) else []) l
+        → IsNamed view (link_by l)
     by false b c = absurd (Contains-nil l c)
     by true b c =
         let w = Contains-from_map (named k r) (names_of (records_of view) k) l c in
@@ -69,7 +71,8 @@ pub shown-base : (view : VolumeView) (link : Link) (r : Record) (h : Bool) → r
 unfolding node_at
 shown-base view link r h at is other hides =
     let o = ne_eqb link.child ROOT other in
-    let n : node_of (read view) link.child ≡ option_and_then (node_on view link.child) (record_on view link.child) = node_of-read view link.child in
+    let n : node_of (read view) link.child ≡ option_and_then (node_on view link.child) (record_on view link.child) =
+    node_of-read view link.child in
     rw (o, n, at, is, hides) (by h)
   where
     by : (h : Bool) → (if not h then Some (node_by view r (parts (records_of view) link.child)) else None)
@@ -98,7 +101,8 @@ pub named-directory : (view : VolumeView) (f : ℕ) → ((n : ℕ) → MeetsLink
     → IsSomeAnd (record_on view f) (λ r. IsTrue (is_base r) × IsTrue (is_directory r)) → HasName (records_of view) f
 named-directory view f meets other is = by (record_on view f) refl is
   where
-    by : (o : Option Record) → record_on view f ≡ o → IsSomeAnd o (λ r. IsTrue (is_base r) × IsTrue (is_directory r)) → HasName (records_of view) f
+    by : (o : Option Record) → record_on view f ≡ o → IsSomeAnd o (λ r. IsTrue (is_base r) × IsTrue (is_directory r))
+        → HasName (records_of view) f
     by None e h = absurd h
     by (Some r) e h = directory-name (records_of view) f r other h.1 (right-links view f r e h.0 (meets f))
 

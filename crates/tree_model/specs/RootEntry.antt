@@ -1,5 +1,5 @@
--- AN ENTRY OF A NAME in the root of the index of a directory, where that leads to no record: then the root is the leaf of every key. It can go
--- out where the directory has no attribute list, as one that comes in asks it too; a root may be left without an entry.
+-- AN ENTRY OF A NAME in the root of the index of a directory, where that leads to no record: then the root is the leaf of every key. It can
+-- go out where the directory has no attribute list, as one that comes in asks it too; a root may be left without an entry.
 -- Layout: Linux-NTFS documentation, attribute $INDEX_ROOT, concept "B*Trees"; Carrier, File System Forensic Analysis, chapter 13.
 use Rattle.std.specs.Prelude.{ℕ, ◌&&◌, not, Bool, false, List}
 use Rattle.std.specs.Option.{option_map_or}

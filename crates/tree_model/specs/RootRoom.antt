@@ -1,5 +1,5 @@
--- ROOM FOR AN ENTRY in the root of the index of a directory, where that leads to no record: then the root is the leaf of every key. An index
--- is said to be without records so, though it may have some that are free.
+-- ROOM FOR AN ENTRY in the root of the index of a directory, where that leads to no record: then the root is the leaf of every key. An
+-- index is said to be without records so, though it may have some that are free.
 -- Layout: Linux-NTFS documentation, attribute $INDEX_ROOT, concept "B*Trees"; Carrier, File System Forensic Analysis, chapter 13.
 use Rattle.std.specs.Prelude.{ℕ, ◌&&◌, nat_le, not, Bool, false, is_some}
 use Rattle.std.specs.List.{list_any}

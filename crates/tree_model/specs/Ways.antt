@@ -68,8 +68,8 @@ is_done_in_record view tree (c.Truncate path stream size) at = stays_value view 
 is_done_in_record view tree (c.Rmstream path name) at = is_value_alone view tree at
 is_done_in_record view tree other at = false
 
--- What is done IN CLUSTERS: a stream in clusters of a file without an attribute list, in one part, goes, or is cut, or gets longer. The bitmap
--- in which clusters are given back, and taken, lies in clusters too.
+-- What is done IN CLUSTERS: a stream in clusters of a file without an attribute list, in one part, goes, or is cut, or gets longer. The
+-- bitmap in which clusters are given back, and taken, lies in clusters too.
 abbrev pub in_extent : Option Part → Bool
 in_extent part = is_some (option_and_then (λ part. content_extent part.content) part)
 

@@ -1,5 +1,6 @@
 //! Laws of the definitions, with nothing to run.
-ghost use Rattle.std.specs.Prelude.{◌≡◌, ◌≢◌, ◌⊎◌, ◌++◌, ◌∷◌, ℕ, suc, Bool, true, List, Option, Some, None, filter, ◌↔◌, false, Contains, IsTrue};
+ghost use Rattle.std.specs.Prelude.{◌≡◌, ◌≢◌, ◌⊎◌, ◌++◌, ◌∷◌, ℕ, suc, Bool, true, List, Option, Some, None, filter, ◌↔◌};
+ghost use Rattle.std.specs.Prelude.{false, Contains, IsTrue};
 ghost use Rattle.std.specs.List.{list_any};
 ghost use Rattle.ntfs_def.specs.Node.{Item};
 ghost use Rattle.volume_def.specs.CaseClause.{volume_fold};

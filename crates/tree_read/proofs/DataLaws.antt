@@ -1,6 +1,9 @@
 -- What the attributes of a loaded file hold, beside what the node tells: its streams, its reparse point and its object id.
-use Rattle.std.proofs.Common.{◌≡◌, ◌&&◌, ◌==◌, ◌+◌, ◌-◌, ◌*◌, ◌/◌, ◌%◌, ◌<◌, ◌≤◌, cond, ℕ, zero, suc, Bool, true, false, List, [], ◌∷◌, ◌++◌, Option, Some, None, Result, Ok, Err, map, filter, drop, take, length, min, inl, inr, refl, sym, ap, ◌∙◌, arith, append-nil, get_or, length-append, length-drop, length-take}
-use Rattle.std.specs.Prelude.{IfOk, IsSome, find, option_and_then, option_map, slice_index, slice_range, if◌then◌else◌, replicate, unwrap_or}
+use Rattle.std.proofs.Common.{◌≡◌, ◌&&◌, ◌==◌, ◌+◌, ◌-◌, ◌*◌, ◌/◌, ◌%◌, ◌<◌, ◌≤◌, cond, ℕ, zero, suc, Bool, true, false, List, [], ◌∷◌}
+use Rattle.std.proofs.Common.{◌++◌, Option, Some, None, Result, Ok, Err, map, filter, drop, take, length, min, inl, inr, refl, sym, ap, ◌∙◌}
+use Rattle.std.proofs.Common.{arith, append-nil, get_or, length-append, length-drop, length-take}
+use Rattle.std.specs.Prelude.{IfOk, IsSome, find, option_and_then, option_map, slice_index, slice_range}
+use Rattle.std.specs.Prelude.{if◌then◌else◌, replicate, unwrap_or}
 use Rattle.std.specs.List.{Contains}
 use Rattle.std.specs.Option.{option_map_or}
 use Rattle.std.specs.Str.{bytes_eq}
@@ -32,7 +35,8 @@ use Rattle.file_record.specs.declared.base.BaseFile.{BaseFile}
 use Rattle.file_record.specs.Held.{held_of, parts_held, parts_of}
 use Rattle.tree_model.specs.Answers.{bytes_of, is_unnamed_object_id, object_id, point_answer}
 use Rattle.list_laws.specs.Ordered.{in_order, put_in_order}
-use Rattle.tree_model.specs.Reading.{begins_other, content_at, is_packed_part, is_told_elsewhere, node_by, other_above, other_at, others_of, padded, point_by, point_in, point_of, read, shown_content}
+use Rattle.tree_model.specs.Reading.{begins_other, content_at, is_packed_part, is_told_elsewhere, node_by, other_above, other_at, others_of}
+use Rattle.tree_model.specs.Reading.{padded, point_by, point_in, point_of, read, shown_content}
 use Rattle.ntfs_def.specs.ReparsePoint.{data_place, is_of_microsoft}
 use Rattle.tree_model.specs.Shown.{point_shown}
 use Rattle.tree_model.specs.declared.reply.Answer.{Answer}
@@ -52,10 +56,12 @@ use Rattle.volume_def.proofs.PartLaws.{named}
 
 pub content-none : (view : VolumeView) (extents : List Part) → first_part extents ≡ None → shown_content view extents ≡ Plain []
 content-none view extents none =
-    ap (λ o. if option_map_or is_packed_part o false then Packed (told_size o) else Plain (value_on view extents)) none ∙ ap Plain (no-value view extents none)
+    ap (λ o. if option_map_or is_packed_part o false then Packed (told_size o) else Plain (value_on view extents)) none
+    ∙ ap Plain (no-value view extents none)
 
 pub content-packed : (view : VolumeView) (file : FileParts) (kind : ℕ) (name : List ℕ) (first : FirstPart)
-    → TellsSizes file kind name first → first.packed ≡ true → (most : ℕ) → begin_of most (shown_content view (attribute_held file kind name)) ≡ None
+    → TellsSizes file kind name first → first.packed ≡ true → (most : ℕ)
+    → begin_of most (shown_content view (attribute_held file kind name)) ≡ None
 content-packed view file kind name first tells packed most =
     let is : option_map_or is_packed_part (first_part (attribute_held file kind name)) false ≡ true =
     ap (λ o. option_map_or is_packed_part o false) tells.is_first ∙ sym tells.packed ∙ packed in
@@ -101,7 +107,8 @@ module _ {A : Type 0} (above : A → A → Bool) (p : A → Bool) (tied : (x y :
   find-put-other x [] e = rw e refl
   find-put-other x (y ∷ ys) e = by (find-put-other x ys e) (above x y) refl
     where
-      by : find p (put_in_order above x ys) ≡ find p ys → (b : Bool) → above x y ≡ b → find p (put_in_order above x (y ∷ ys)) ≡ find p (y ∷ ys)
+      by : find p (put_in_order above x ys) ≡ find p ys → (b : Bool) → above x y ≡ b
+          → find p (put_in_order above x (y ∷ ys)) ≡ find p (y ∷ ys)
       by rest false b = rw (b, e) refl
       by rest true b = rw b (ap (λ o. cond (p y) (Some y) o) rest)
 
@@ -109,7 +116,8 @@ module _ {A : Type 0} (above : A → A → Bool) (p : A → Bool) (tied : (x y :
   find-put-here x [] e = rw e refl
   find-put-here x (y ∷ ys) e = by (find-put-here x ys e) (above x y) (p y) refl refl
     where
-      by : find p (put_in_order above x ys) ≡ Some x → (b s : Bool) → above x y ≡ b → p y ≡ s → find p (put_in_order above x (y ∷ ys)) ≡ Some x
+      by : find p (put_in_order above x ys) ≡ Some x → (b s : Bool) → above x y ≡ b → p y ≡ s
+          → find p (put_in_order above x (y ∷ ys)) ≡ Some x
       by rest false s b q = rw (b, e) refl
       by rest true true b q = let none = tied x y e q in cc
       by rest true false b q = rw (b, q) rest
@@ -142,7 +150,8 @@ names-even file part among =
     let (i, inside, get) = own in
     let few : i < one.count = omega (arith, length-attributes one.block one.count one.shape) in
     let at : get_or (attributes one.block) i attribute ≡ attribute_at one.block (attribute_place one.block i) =
-    some-same _ _ (sym (slice_get-get_or (attributes one.block) i attribute inside) ∙ slice_get-attributes one.block one.count i one.shape few) in
+    some-same _ _ (sym (slice_get-get_or (attributes one.block) i attribute inside)
+    ∙ slice_get-attributes one.block one.count i one.shape few) in
     let stands = one.shape.each i few in
     let long = header_failing-length one.block one.shape.header in
     let used = header_failing-used one.block one.shape.header in
@@ -176,7 +185,8 @@ object-sought view all part even = by (part.kind == OBJECT_ID) refl
     by true e =
         let told = object-told part (eqb-true part.kind OBJECT_ID e) in
         let unnamed = no-name part.name even in
-        rw (e, told, unnamed) (ap (λ b. b && bytes_eq part.name []) (and-true (is_first part)) ∙ and-swap (is_first part) (bytes_eq part.name []))
+        rw (e, told, unnamed) (ap (λ b. b && bytes_eq part.name []) (and-true (is_first part))
+        ∙ and-swap (is_first part) (bytes_eq part.name []))
       where
         and-true : (b : Bool) → (b && true) ≡ b
         and-true true = refl
@@ -200,7 +210,8 @@ object-found : (view : VolumeView) (all : List Part) → ((part : Part) → Cont
     → find is_unnamed_object_id (others_of view all) ≡ option_map (other_at view all) (find (is_sought OBJECT_ID []) all)
 unfolding others_of
 object-found view all even =
-    find-tied (other_above (volume_fold view)) is_unnamed_object_id (object-tied (volume_fold view)) (map (other_at view all) (filter begins_other all))
+    find-tied (other_above (volume_fold view)) is_unnamed_object_id (object-tied (volume_fold view))
+    (map (other_at view all) (filter begins_other all))
     ∙ find-map (other_at view all) is_unnamed_object_id (filter begins_other all)
     ∙ ap (option_map (other_at view all)) (find-filter (λ p. is_unnamed_object_id (other_at view all p)) begins_other all
     ∙ find-agree (is_sought OBJECT_ID []) (λ p. begins_other p && is_unnamed_object_id (other_at view all p)) all
@@ -272,11 +283,13 @@ data-padded whole place low = elim (cases_lt (length whole) 8) [
       let none : 8 - length whole ≡ 0 = omega arith in
       ap (λ n. drop place (whole ++ replicate n 0)) none ∙ ap (drop place) (append-nil whole)
   | inl short ↦
-      drop_all place (padded whole) (omega (arith, length-append whole (replicate (8 - length whole) 0), length-replicate {A = ℕ} (8 - length whole) 0))
+      drop_all place (padded whole)
+      (omega (arith, length-append whole (replicate (8 - length whole) 0), length-replicate {A = ℕ} (8 - length whole) 0))
       ∙ sym (drop_all place whole (omega arith))
 ]
 
-index-first : (whole value : List ℕ) (most k : ℕ) → value ≡ first_bytes most whole → k < most → slice_index value k ≡ slice_index (padded whole) k
+index-first : (whole value : List ℕ) (most k : ℕ) → value ≡ first_bytes most whole → k < most
+    → slice_index value k ≡ slice_index (padded whole) k
 unfolding first_bytes
 index-first whole value most k is inside =
     ap (λ v. slice_index v k) is ∙ get_or-take most whole k 0 inside ∙ sym (index-padded whole k)
@@ -310,7 +323,8 @@ point-read whole value bytes most tag place n is many t m few at rest =
 
 module _ (view : VolumeView) (held : BaseFile) (n : IsNodeHeld view held) where
   found-point : (o : Option Part) → find (is_of REPARSE_POINT []) (parts_in held) ≡ o → IsSome o
-      → reparse_shown (read view) (number_of held) ≡ Ok (point_answer (point_by (shown_content view (attribute_held held.parts REPARSE_POINT []))))
+      → reparse_shown (read view) (number_of held)
+      ≡ Ok (point_answer (point_by (shown_content view (attribute_held held.parts REPARSE_POINT []))))
   found-point None e is = cc
   found-point (Some part) e is = point-held view held n part e
 

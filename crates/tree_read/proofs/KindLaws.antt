@@ -1,5 +1,6 @@
 -- What is read of a link tells what it leads to.
-use Rattle.std.proofs.Common.{◌≡◌, inl, inr, ℕ, zero, suc, ◌-◌, ◌<◌, ◌≤◌, ◌==◌, ◌/◌, ◌%◌, not, Bool, true, false, cond, List, [], Option, Some, None, IfSome, IsSomeAnd, IsTrue, is_some, if◌then◌else◌, refl, sym, ap, subst, ◌∙◌, arith}
+use Rattle.std.proofs.Common.{◌≡◌, inl, inr, ℕ, zero, suc, ◌-◌, ◌<◌, ◌≤◌, ◌==◌, ◌/◌, ◌%◌, not, Bool, true, false, cond, List, [], Option}
+use Rattle.std.proofs.Common.{Some, None, IfSome, IsSomeAnd, IsTrue, is_some, if◌then◌else◌, refl, sym, ap, subst, ◌∙◌, arith}
 use Rattle.std.specs.Prelude.{find}
 use Rattle.std.specs.List.{All, Contains, list_any}
 use Rattle.std.specs.Option.{option_map}
@@ -130,7 +131,8 @@ module _ (view : VolumeView) (sound : IsSound view) where
       → found ≡ option_map (λ (link : Link). link.parent) (name_above view at) → StepsUp view dir left found
   up-goes dir at left found high so is = by so.steps so.climb so.fits so.leads
     where
-      by : (n : ℕ) → Climbs view n at → n ≤ suc left → leads_to_system (records_of view) n at ≡ leads_hidden view dir → StepsUp view dir left found
+      by : (n : ℕ) → Climbs view n at → n ≤ suc left → leads_to_system (records_of view) n at ≡ leads_hidden view dir
+          → StepsUp view dir left found
       by zero root le leads = absurd (omega (arith, root))
       by (suc n) (ne, has, c) le leads = record {
         parent = has.name.parent.number;
@@ -168,7 +170,8 @@ module _ (view : VolumeView) (sound : IsSound view) where
           (parent, fixed n has.name.parent.number c parent ∙ sym (fixed (suc n) at (ne, has, c) is ∙ leads-parent n at high has))
 
 -- the names of a file stand in directories
-pub parents-directories : (view : VolumeView) → IsSound view → (f : ℕ) → All (λ (link : Link). IsDirectory view link.parent) (links_to view f)
+pub parents-directories : (view : VolumeView) → IsSound view → (f : ℕ)
+    → All (λ (link : Link). IsDirectory view link.parent) (links_to view f)
 parents-directories view sound f =
     All-from_Contains (λ (link : Link). IsDirectory view link.parent) (links_to view f) (λ link c.
     let w = Contains-from_map (link_for f) (names_of (records_of view) f) link c in
@@ -220,7 +223,8 @@ module _ (view : VolumeView) (sound : IsSound view) (dir : ℕ) (link : Link) (d
       let d = sym (told held is) ∙ dir_is in
       let n = view.layout.count - 1 in
       ap kind_of (shown-base view link of.base false of.at of.is (λ e. absurd (omega arith))
-      (directory-shown view dir n link (some-records view dir directory) (sound Links) shown of (directory-link view dir link there).1 d high))
+      (directory-shown view dir n link (some-records view dir directory) (sound Links) shown of
+      (directory-link view dir link there).1 d high))
       ∙ node-kind view of.base (parts (records_of view) link.child) true (has_point_held held.parts) d
       (sym (point-told view link.child held is))
 
@@ -233,11 +237,13 @@ module _ (view : VolumeView) (sound : IsSound view) (dir : ℕ) (link : Link) (d
       let n = view.layout.count - 1 in
       let hides : is_hidden (records_of view) link.child ≡ found =
       hidden-links view link.child n (some-records view dir directory) high
-      ∙ sym (ap (list_any (λ (l : Link). leads_to_system (records_of view) n l.parent)) (links-told view link.child held is sound)) ∙ sym found_is in
+      ∙ sym (ap (list_any (λ (l : Link). leads_to_system (records_of view) n l.parent)) (links-told view link.child held is sound))
+      ∙ sym found_is in
       ap kind_of (shown-base view link of.base found of.at of.is (λ e. absurd (omega arith)) hides) ∙ by found d
     where
       by : (b : Bool) → is_directory of.base ≡ false
-          → kind_of (if b then None else Some (node_by view of.base (parts (records_of view) link.child))) ≡ (if b then kind.Hidden else kind.File)
+          → kind_of (if b then None else Some (node_by view of.base (parts (records_of view) link.child)))
+          ≡ (if b then kind.Hidden else kind.File)
       by true d = refl
       by false d =
           node-kind view of.base (parts (records_of view) link.child) false (has_point_held held.parts) d

@@ -1,5 +1,6 @@
 -- What was loaded and read of a file.
-use Rattle.std.proofs.Common.{◌≡◌, ◌+◌, ◌≤◌, ℕ, false, List, [], Option, Some, None, Result, Ok, Err, length, min, refl, sym, ap, subst, ◌∙◌, arith}
+use Rattle.std.proofs.Common.{◌≡◌, ◌+◌, ◌≤◌, ℕ, false, List, [], Option, Some, None, Result, Ok, Err, length, min, refl, sym, ap}
+use Rattle.std.proofs.Common.{subst, ◌∙◌, arith}
 use Rattle.std.specs.Prelude.{IfSome, IsSome, IsTrue, slice_get, slice_range}
 use Rattle.volume_def.specs.Readable.{IsFile, WhereReadable}
 use Rattle.volume_def.specs.Values.{attribute_value, first_part, value_on}
@@ -30,7 +31,8 @@ use Rattle.tree_read.proofs.GivesLaws.{tells}
 -- none is there
 pub begin-none : (view : VolumeView) (file : FileParts) (kind most : ℕ) (name : List ℕ) → first_part (attribute_held file kind name) ≡ None
     → Some [] ≡ begin_of most (shown_content view (attribute_held file kind name))
-begin-none view file kind most name none = let is = content-none view (attribute_held file kind name) none in rw is (ap Some (sym (no_first most)))
+begin-none view file kind most name none = let is = content-none view (attribute_held file kind name) none in
+    rw is (ap Some (sym (no_first most)))
 
 -- what was read of one that is there
 pub begin-read : (view : VolumeView) (held : BaseFile) (kind most : ℕ) (name : List ℕ) (first : FirstPart) (new : List ℕ) (len : ℕ)
@@ -42,12 +44,14 @@ pub begin-read : (view : VolumeView) (held : BaseFile) (kind most : ℕ) (name :
     → IsTrue view.told → Some new ≡ begin_of most (shown_content view (attribute_held held.parts kind name))
 begin-read view held kind most name first new len n tells plain short read_ told =
     let stored : Stored = record { part = first.index; len = first.len } in
-    let s : IsStored held.parts kind name stored = record { first = tells.part; at = tells.at; is_first = tells.is_first; len = tells.len } in
+    let s : IsStored held.parts kind name stored =
+    record { first = tells.part; at = tells.at; is_first = tells.is_first; len = tells.len } in
     let got = stored-read view held.parts kind name stored s 0 len new
     (read_ told n.readable n.parts (held-file view held n)) (omega arith) in
     let whole = content-plain view held.parts kind name first tells plain in
     rw whole (ap Some (first-read (value_on view (attribute_held held.parts kind name)) new first.len most
-    (stored-length view held.parts kind name stored s) (got ∙ ap (λ k. slice_range (value_on view (attribute_held held.parts kind name)) 0 (0 + k)) short)))
+    (stored-length view held.parts kind name stored s)
+    (got ∙ ap (λ k. slice_range (value_on view (attribute_held held.parts kind name)) 0 (0 + k)) short)))
 
 -- a file that was loaded, of a number in use
 pub file-found : {D : Type 0} (g : Ghosts D) (old new : Mft D g) (f : ℕ) (found : Option BaseFile) (held : BaseFile) → found ≡ Some held

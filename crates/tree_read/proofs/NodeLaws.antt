@@ -1,5 +1,6 @@
 -- A file that is loaded is a node of its volume's tree, and what it shows.
-use Rattle.std.proofs.Common.{◌≡◌, ◌&&◌, ◌==◌, ◌/◌, ◌%◌, not, ℕ, Bool, true, false, List, Option, Some, None, Ok, map, refl, sym, ap, subst, ◌∙◌}
+use Rattle.std.proofs.Common.{◌≡◌, ◌&&◌, ◌==◌, ◌/◌, ◌%◌, not, ℕ, Bool, true, false, List, Option, Some, None, Ok, map, refl, sym}
+use Rattle.std.proofs.Common.{ap, subst, ◌∙◌}
 use Rattle.std.specs.Prelude.{IsSome, IsSomeAnd, IsTrue, if◌then◌else◌, option_and_then, option_map, slice_index}
 use Rattle.volume_def.specs.CaseClause.{volume_fold}
 use Rattle.volume_def.specs.Files.{Part, Record, is_base, is_directory, parts, record_on, records_of}
@@ -65,7 +66,8 @@ header-of : (o : Option Record) (r : Record) (held : BaseFile) → o ≡ Some r
 header-of o r held e has = (subst (λ o. IsSomeAnd o (λ base. IsTrue (is_base base) × HasHeader held.header base)) e has).1
 
 -- THE FILE OF A NUMBER that is shown, as it is held, is a node.
-pub node-held : (view : VolumeView) (f : ℕ) (held : BaseFile) → IsReadableVolume view → IsSome (node_of (read view) f) → IsFileHeld view f held
+pub node-held : (view : VolumeView) (f : ℕ) (held : BaseFile) → IsReadableVolume view
+    → IsSome (node_of (read view) f) → IsFileHeld view f held
     → IsNodeHeld view held
 node-held view f held readable shown is =
     let on = shown-node view f shown in
@@ -127,7 +129,8 @@ module _ (view : VolumeView) (held : BaseFile) (n : IsNodeHeld view held) where
 
   abbrev stat_by : Bool → Option Node → Answer
   stat_by dir o = let standard = standard_of (parts_in held) in
-      a.Stat dir (shown_link_count (read view) (number_of held)) (unnamed_size (read view) o) (standard_flags standard) (standard_security standard)
+      a.Stat dir (shown_link_count (read view) (number_of held)) (unnamed_size (read view) o) (standard_flags standard)
+      (standard_security standard)
       (slice_index (standard_times standard) 0) (slice_index (standard_times standard) 1) (slice_index (standard_times standard) 2)
       (slice_index (standard_times standard) 3)
 

@@ -1,5 +1,6 @@
 -- What the parts of a file tell of its names.
-use Rattle.std.proofs.Common.{◌≡◌, ℕ, ◌==◌, ◌/◌, ◌%◌, ◌||◌, Bool, true, false, List, [], ◌∷◌, map, Option, Some, None, IsSomeAnd, IfSome, IsTrue, refl, sym, ap, subst, ◌∙◌}
+use Rattle.std.proofs.Common.{◌≡◌, ℕ, ◌==◌, ◌/◌, ◌%◌, ◌||◌, Bool, true, false, List, [], ◌∷◌, map, Option, Some, None, IsSomeAnd, IfSome}
+use Rattle.std.proofs.Common.{IsTrue, refl, sym, ap, subst, ◌∙◌}
 use Rattle.std.specs.List.{All, cons_option, filter_map, list_any}
 use Rattle.std.specs.Option.{option_map}
 use Rattle.std.proofs.lemmas.Bool.{eqb-true}
@@ -9,7 +10,8 @@ use Rattle.ntfs_def.specs.FileName.{FileName, is_name_key, name_in}
 use Rattle.ntfs_def.specs.declared.kinds.TheConstants.{FILE_NAME, REPARSE_POINT}
 use Rattle.volume_def.specs.AttributesClause.{IsRightPart}
 use Rattle.volume_def.specs.FileNames.{names_among, names_of}
-use Rattle.volume_def.specs.Files.{Part, Record, content_of, content_value, is_base, is_directory, is_of, part_of, parts, record_on, records_of}
+use Rattle.volume_def.specs.Files.{Part, Record, content_of, content_value, is_base, is_directory, is_of, part_of}
+use Rattle.volume_def.specs.Files.{parts, record_on, records_of}
 use Rattle.volume_def.specs.Sound.{IsSound}
 use Rattle.volume_def.specs.View.{VolumeView}
 use Rattle.list_laws.proofs.MemberLaws.{All-from_Contains}
@@ -46,7 +48,8 @@ one-link f n a ls ps right same = by (a.kind == FILE_NAME) refl (value_of a.body
         → cons_option (attribute_link f a) ls ≡ map (link_for f) (names_among (part_of n a ∷ ps))
     by false b o v = rw b same
     by true b None v =
-        let some = subst (λ o. IsSomeAnd o (λ v. IsTrue (is_name_key v))) (value-held a.body ∙ v) (right.name (eqb-true a.kind FILE_NAME b)) in
+        let some = subst (λ o. IsSomeAnd o (λ v. IsTrue (is_name_key v))) (value-held a.body ∙ v)
+        (right.name (eqb-true a.kind FILE_NAME b)) in
         absurd some
     by true b (Some value) v =
         let held = value-held a.body ∙ v in

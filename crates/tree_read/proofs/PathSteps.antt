@@ -136,7 +136,8 @@ module _ {D : Type 0} (g : Ghosts D) (old : Mft D g) (path names : List (List �
       (follows g (led_from_root names) (λ volume. reached_in (read volume) name) dir result first second)
 
   -- what is reached is a node, and is held
-  pub path-node : (mft new : Mft D g) (dir : ℕ) (result : Result Reached Stop) → IsInUse g old → Answered g old mft (led_from_root names) (Ok dir)
+  pub path-node : (mft new : Mft D g) (dir : ℕ) (result : Result Reached Stop) → IsInUse g old
+      → Answered g old mft (led_from_root names) (Ok dir)
       → Answered g mft new (λ volume. reached_in (read volume) name dir) (with_ok found_by result)
       → IfOk result (λ to. IsTrue (view g mft).told → IsFileHeld (view g mft) (found_file to.found) to.held)
       → IfOk result (λ to. IsTrue (view g old).told → IsNodeHeld (view g old) to.held)

@@ -1,5 +1,6 @@
 -- The path of a link, as it is climbed.
-use Rattle.std.proofs.Common.{◌≡◌, ◌≢◌, ◌⊎◌, inl, inr, ℕ, zero, suc, ◌≤◌, List, [], ◌∷◌, ◌++◌, length, Some, false, sym, ap, ◌∙◌, append_assoc, arith}
+use Rattle.std.proofs.Common.{◌≡◌, ◌≢◌, ◌⊎◌, inl, inr, ℕ, zero, suc, ◌≤◌, List, [], ◌∷◌, ◌++◌, length, Some, false, sym, ap}
+use Rattle.std.proofs.Common.{◌∙◌, append_assoc, arith}
 use Rattle.ntfs_def.specs.declared.records.TheConstants.{ROOT}
 use Rattle.volume_def.specs.Files.{records_of}
 use Rattle.volume_def.specs.Sound.{IsSound, Links, References}
@@ -46,7 +47,8 @@ module _ (view : VolumeView) (sound : IsSound view) (link : Link) where
   path-more at left names ne so = by so.steps so.climb so.fits so.path
     where
       by : (n : ℕ) → Climbs view n at → n ≤ suc left
-          → path_to (read view) (length (read view).links) link.parent ++ link.name ∷ [] ≡ path_to (read view) n at ++ names → GoesOn at left names
+          → path_to (read view) (length (read view).links) link.parent ++ link.name ∷ [] ≡ path_to (read view) n at ++ names
+          → GoesOn at left names
       by zero root le path = absurd (ne root)
       by (suc n) (other, has, c) le path =
           let up = link_for at has.name in

@@ -1,5 +1,6 @@
 -- The bits that are kept of a sound volume tell what is free in it.
-use Rattle.std.proofs.Common.{◌≡◌, ◌↔◌, ◌==◌, ◌+◌, ◌-◌, ◌≤◌, not, ℕ, zero, suc, Bool, true, false, List, Option, Some, None, Ok, map, drop, length, inl, inr, refl, sym, ap, subst, ◌∙◌, arith, rules, take, min}
+use Rattle.std.proofs.Common.{◌≡◌, ◌↔◌, ◌==◌, ◌+◌, ◌-◌, ◌≤◌, not, ℕ, zero, suc, Bool, true, false, List, Option, Some, None, Ok, map, drop}
+use Rattle.std.proofs.Common.{length, inl, inr, refl, sym, ap, subst, ◌∙◌, arith, rules, take, min}
 use Rattle.std.specs.Prelude.{IsSome, cond, count_by, is_none, slice_get}
 use Rattle.std.specs.List.{range_with_len}
 use Rattle.std.proofs.lemmas.Bool.{cases_eq, ne_eqb}
@@ -85,14 +86,16 @@ df-told view mounted facts volume tells =
     tells.free ∙ sym (ap (count_by not) clusters ∙ free-clusters view (volume.sound ClusterBits)) in
     let a3 : facts.records ≡ length mounted.records = tells.records ∙ sym (ap length records ∙ length-flags _ view.layout.count) in
     let a4 : facts.free_records ≡ count_by not (drop FIRST_ORDINARY mounted.records) =
-    tells.free_records ∙ sym (ap (λ flags. count_by not (drop FIRST_ORDINARY flags)) records ∙ free-records view (volume.sound RecordBits)) in
+    tells.free_records ∙ sym (ap (λ flags. count_by not (drop FIRST_ORDINARY flags)) records
+    ∙ free-records view (volume.sound RecordBits)) in
     ap (λ n. Ok (a.Df n facts.free facts.records facts.free_records)) a1
     ∙ ap (λ n. Ok (a.Df (length mounted.clusters) n facts.records facts.free_records)) a2
     ∙ ap (λ n. Ok (a.Df (length mounted.clusters) (count_by not mounted.clusters) n facts.free_records)) a3
     ∙ ap (λ n. Ok (a.Df (length mounted.clusters) (count_by not mounted.clusters) (length mounted.records) n)) a4
 
 pub df-answer : (view : VolumeView) (mounted kept : Mounted) (facts : Facts) (answer : Answer) → kept ≡ mounted
-    → answer ≡ a.Df (length kept.clusters) (count_by not kept.clusters) (length kept.records) (count_by not (drop FIRST_ORDINARY kept.records))
+    → answer ≡ a.Df (length kept.clusters) (count_by not kept.clusters) (length kept.records)
+    (count_by not (drop FIRST_ORDINARY kept.records))
     → IsSoundVolume view mounted → TellsFacts view facts → df_shown facts ≡ Ok answer
 df-answer view mounted kept facts answer same is volume tells =
     df-told view kept facts (subst (λ (m : Mounted). IsSoundVolume view m) (sym same) volume) tells ∙ ap Ok (sym is)
@@ -108,12 +111,19 @@ module _ (flags : List Bool) (k free : ℕ) (counted : free + count_by not (take
       let next = taken-next b at clear in
       let most = sum_by-take-le (λ (b : Bool). cond (not b) 1 0) flags (k + 1) in omega (arith, next, most, counted)
 
-  pub counted-free : (b : Bool) → slice_get flags k ≡ Some b → not b ≡ true → free - 1 + count_by not (take (k + 1) flags) ≡ count_by not flags
+  pub counted-free : (b : Bool) → slice_get flags k ≡ Some b → not b ≡ true
+      → free - 1 + count_by not (take (k + 1) flags) ≡ count_by not flags
   counted-free b at clear = omega (arith, taken-next b at clear, some-free b at clear, counted)
 
-  pub counted-taken : (b : Bool) → slice_get flags k ≡ Some b → not b ≡ false → free + count_by not (take (k + 1) flags) ≡ count_by not flags
+  pub counted-taken : (b : Bool) → slice_get flags k ≡ Some b → not b ≡ false
+      → free + count_by not (take (k + 1) flags) ≡ count_by not flags
   counted-taken b at set =
-      omega (arith, counted, count_by_more_no not flags k b (slice_get_within flags k b at) (ap not (get_or_from_slice_get flags k b b at) ∙ set))
+      omega (
+        arith,
+        counted,
+        count_by_more_no not flags k b (slice_get_within flags k b at)
+            (ap not (get_or_from_slice_get flags k b b at) ∙ set),
+      )
 
   pub counted-rest : (most : ℕ) → k ≡ min most (length flags) → free ≡ count_by not (drop most flags)
   counted-rest most is =

@@ -1,5 +1,6 @@
 -- A stream of a loaded file, and its bytes.
-use Rattle.std.proofs.Common.{◌≡◌, ◌&&◌, ◌==◌, ◌/◌, ◌%◌, ◌<◌, ◌≤◌, ℕ, true, false, List, [], Option, Some, None, Result, Ok, Err, length, refl, sym, ap, subst, ◌∙◌, arith, inl, inr}
+use Rattle.std.proofs.Common.{◌≡◌, ◌&&◌, ◌==◌, ◌/◌, ◌%◌, ◌<◌, ◌≤◌, ℕ, true, false, List, [], Option, Some, None, Result, Ok, Err, length}
+use Rattle.std.proofs.Common.{refl, sym, ap, subst, ◌∙◌, arith, inl, inr}
 use Rattle.std.specs.Prelude.{option_map, if◌then◌else◌}
 use Rattle.std.specs.Option.{option_map_or}
 use Rattle.std.proofs.lemmas.Bool.{le-ltb, lt-ltb}
@@ -60,7 +61,8 @@ module _ (view : VolumeView) (held : BaseFile) (n : IsNodeHeld view held) where
       ∙ ap (λ b. if b then Err no.IsDir else content_here view held name) other
 
   content-is : (name : List ℕ)
-      → content_here view held name ≡ plain_bytes (option_map (λ (s : Stream). s.content) (sought_stream (volume_fold view) (streams_held view held.parts) name))
+      → content_here view held name ≡ plain_bytes
+      (option_map (λ (s : Stream). s.content) (sought_stream (volume_fold view) (streams_held view held.parts) name))
   content-is name = ap plain_bytes (content-held view held n name)
 
   sought-content : (name : List ℕ) (stream : Stream) → sought_stream (volume_fold view) (streams_held view held.parts) name ≡ Some stream
@@ -119,7 +121,8 @@ module _ (view : VolumeView) (held : BaseFile) (n : IsNodeHeld view held) where
       → is_packed is.stream.content ≡ false → octets ≡ range_of at len (bytes_of is.stream.content))
       → octets ≡ range_of at len is.bytes
   range-read name found at len octets is read =
-      read (value_on view (case_parts view)) name (held-with view held n (value_on view (case_parts view)) refl) is.is (ap is_packed is.holds)
+      read (value_on view (case_parts view)) name (held-with view held n (value_on view (case_parts view)) refl) is.is
+      (ap is_packed is.holds)
       ∙ ap (λ (c : Content). range_of at len (bytes_of c)) is.holds
 
 -- A stream that is shown, whole and in part.

@@ -1,5 +1,6 @@
 -- The steps of a walk along a path, by what the links on it lead to.
-use Rattle.std.proofs.Common.{◌≡◌, ◌&&◌, ◌∷◌, ℕ, zero, suc, Bool, true, false, not, List, find, Option, Some, None, Result, Ok, Err, is_some, IfSome, IsSome, IsTrue, IsSomeAnd, Contains, refl, sym, ap, ◌∙◌, subst, if◌then◌else◌}
+use Rattle.std.proofs.Common.{◌≡◌, ◌&&◌, ◌∷◌, ℕ, zero, suc, Bool, true, false, not, List, find, Option, Some, None, Result, Ok, Err}
+use Rattle.std.proofs.Common.{is_some, IfSome, IsSome, IsTrue, IsSomeAnd, Contains, refl, sym, ap, ◌∙◌, subst, if◌then◌else◌}
 use Rattle.std.specs.Prelude.{option_and_then, option_map}
 use Rattle.std.specs.Option.{option_or}
 use Rattle.std.specs.Str.{bytes_eq}
@@ -203,7 +204,8 @@ reached-held P link (below.Point held) end is e =
     let same : record { found = found.Link link; held = held } ≡ end = cc in subst (λ (r : Reached). P (found_file r.found) r.held) same is
 
 -- The line of a link that is no DOS name, by what it leads to.
-pub listed-step : (tree : Tree) (link : Link) → is_dos link ≡ false → ls_line tree link ≡ listed_kind link.name (kind_of (shown_node tree link))
+pub listed-step : (tree : Tree) (link : Link) → is_dos link ≡ false
+    → ls_line tree link ≡ listed_kind link.name (kind_of (shown_node tree link))
 listed-step tree link other = rw other (by (shown_node tree link))
   where
     last : (node : Node) (d p : Bool) → node.dir ≡ d → is_some node.point ≡ p

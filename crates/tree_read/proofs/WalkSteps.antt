@@ -24,7 +24,8 @@ abbrev pub as_answer : {A : Type 0} → Result A No → Result A Stop
 as_answer (Ok x) = Ok x
 as_answer (Err refused) = Err (stop.No refused)
 
-pub decided : {D A : Type 0} (g : Ghosts D) (mft : Mft D g) (result : Result A No) → Answered g mft mft (λ volume. result) (as_answer result)
+pub decided : {D A : Type 0} (g : Ghosts D) (mft : Mft D g) (result : Result A No)
+    → Answered g mft mft (λ volume. result) (as_answer result)
 decided g mft (Ok x) = at_once refl (λ told. refl)
 decided g mft (Err refused) = at_once refl (λ told. inl refl)
 
@@ -53,7 +54,8 @@ module _ {D B : Type 0} (g : Ghosts D) (of_link : Tree → Option Link → Resul
   abbrev component : VolumeView → Result B No
   component volume = of_link (read volume) (lookup (read volume) dir name)
 
-  as_component : (old new : Mft D g) (result : Result B Stop) → Answered g old new (λ volume. and_then (sought volume) (then_ volume)) result
+  as_component : (old new : Mft D g) (result : Result B Stop)
+      → Answered g old new (λ volume. and_then (sought volume) (then_ volume)) result
       → Answered g old new component result
   as_component old new result =
       same_wanted g (λ volume. and_then (sought volume) (then_ volume)) component result

@@ -1,5 +1,6 @@
 -- Parts of a file, as they are sought among those that are held.
-use Rattle.std.specs.Prelude.{◌≡◌, ◌⊎◌, ◌&&◌, ℕ, Bool, false, List, [], Option, Some, None, Result, Ok, Err, count_by, find, length, slice_get}
+use Rattle.std.specs.Prelude.{◌≡◌, ◌⊎◌, ◌&&◌, ℕ, Bool, false, List, [], Option, Some, None, Result, Ok, Err, count_by}
+use Rattle.std.specs.Prelude.{find, length, slice_get}
 use Rattle.std.specs.Option.{option_map_or}
 use Rattle.ntfs_def.specs.FileName.{name_in}
 use Rattle.volume_def.specs.FileNames.{is_file_name, is_not_dos}

@@ -63,7 +63,8 @@ hread_shown tree name from len file = and_then (plain_bytes (content_named tree 
 -- open: the file that a path leads to, where its stream of this name may be opened
 abbrev pub plain_file : Tree → List (List ℕ) → List ℕ → Result ℕ No
 plain_file tree path name =
-    and_then (resolve tree path) (λ found. and_then (stream_of tree name (node_of tree (found_file found))) (λ bytes. Ok (found_file found)))
+    and_then (resolve tree path)
+    (λ found. and_then (stream_of tree name (node_of tree (found_file found))) (λ bytes. Ok (found_file found)))
 
 -- streams
 abbrev pub streams_shown : Tree → ℕ → Result Answer No

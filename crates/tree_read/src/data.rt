@@ -1,5 +1,6 @@
 //! What a file holds: bytes of a stream, the reparse point and the object id.
-ghost use Rattle.std.specs.Prelude.{◌≡◌, ◌<◌, ◌==◌, ◌&&◌, ◌/◌, ◌%◌, nat_lt, ℕ, [], IfErr, IfOk, IfSome, IsSome, IsTrue, List, Ok, find, length};
+ghost use Rattle.std.specs.Prelude.{◌≡◌, ◌<◌, ◌==◌, ◌&&◌, ◌/◌, ◌%◌, nat_lt, ℕ, [], IfErr, IfOk, IfSome, IsSome, IsTrue, List};
+ghost use Rattle.std.specs.Prelude.{Ok, find, length};
 ghost use Rattle.mft_table.specs.Mft.{view};
 ghost use Rattle.volume_def.specs.View.{VolumeView};
 ghost use Rattle.ntfs_def.specs.ReparsePoint.{data_place};

@@ -2,8 +2,8 @@
 use Rattle.std.proofs.Common.{◌≡◌, ℕ, ◌+◌, ◌-◌, ◌≤◌, ◌++◌, List, [], drop, inl, inr, length, max, replicate, take, take_all, ap}
 use Rattle.std.proofs.Common.{sym, ◌∙◌, arith}
 use Rattle.std.proofs.lemmas.Bool.{cases_lt}
-use Rattle.std.proofs.lemmas.List.{append-nil, append_assoc, drop-replicate, drop_all, length-append, length-drop, length-replicate, length-take}
-use Rattle.std.proofs.lemmas.List.{take-append-le, take-replicate}
+use Rattle.std.proofs.lemmas.List.{append-nil, append_assoc, drop-replicate, drop_all, length-append, length-drop, length-replicate}
+use Rattle.std.proofs.lemmas.List.{length-take, take-append-le, take-replicate}
 use Rattle.std.proofs.Math.Seq.{drop-append-add, take-append-add}
 use Rattle.attr_view.specs.Values.{with_length}
 use Rattle.extent_edits.specs.Attributes.{with_bytes_at}

@@ -171,8 +171,8 @@ pub record PutsStream (old new : VolumeView) (f : ℕ) (name : List ℕ) (bytes 
   pub takes : sum_by run_size puts.edits.taken ≤ count
   pub sets : SetsAttributes mid new f times flags
 
--- THE CLUSTERS OF A STREAM, of `size` bytes each, that it may gain by a write: those that the bytes touch, or its old value does, which then
--- left its record.
+-- THE CLUSTERS OF A STREAM, of `size` bytes each, that it may gain by a write: those that the bytes touch, or its old value does, which
+-- then left its record.
 abbrev pub gained_by_write : ℕ → List Part → ℕ → ℕ → ℕ → Bool
 gained_by_write size extents from len vcn = touches size from len vcn || touches size 0 (stream_value_len extents) vcn
 
@@ -183,8 +183,8 @@ gained_by_length size extents had end vcn = nat_lt had end && touches size 0 (st
 abbrev pub count_by_length : ℕ → List Part → ℕ → ℕ → ℕ
 count_by_length size extents had end = if nat_lt had end then new_clusters size extents 0 0 else 0
 
--- IT HAS SO MANY BYTES, of those that it had, and behind them zeros; no cluster of it lies behind its end. It gained none but where it was a
--- value that left its record.
+-- IT HAS SO MANY BYTES, of those that it had, and behind them zeros; no cluster of it lies behind its end. It gained none but where it was
+-- a value that left its record.
 pub record ResizesStream (old new : VolumeView) (f : ℕ) (name : List ℕ) (size : ℕ) (held times : List ℕ) (flags : ℕ) : Type 0 where
   pub puts : PutsStream old new f name (Some (resized size held))
       (gained_by_length (cluster_bytes old.layout) (parts_at old f DATA name) (length held) size)

@@ -1,7 +1,8 @@
 //! Where a security descriptor stands in the stream of descriptors, `$SDS`.
 //!
 //! (Linux-NTFS documentation, file `$Secure`; Carrier, *File System Forensic Analysis*, chapter 13.)
-ghost use Rattle.std.specs.Prelude.{◌≡◌, ◌↔◌, ◌+◌, ◌<◌, ◌≤◌, ℕ, List, codes, length, slice_range, IfErr, IfOk, IfSome, IsSome, IsTrue, MatchResult};
+ghost use Rattle.std.specs.Prelude.{◌≡◌, ◌↔◌, ◌+◌, ◌<◌, ◌≤◌, ℕ, List, codes, length, slice_range, IfErr, IfOk, IfSome};
+ghost use Rattle.std.specs.Prelude.{IsSome, IsTrue, MatchResult};
 ghost use Rattle.ntfs_def.specs.Units.{wide};
 ghost use Rattle.ntfs_def.specs.declared.kinds.TheConstants.{DATA};
 ghost use Rattle.volume_def.specs.Values.{IsPlain, value_on};

@@ -1,5 +1,6 @@
 -- Fields that are written, and fields that are read around a write.
-use Rattle.std.proofs.Common.{◌≡◌, ℕ, ◌+◌, ◌-◌, ◌<◌, ◌≤◌, List, [], ◌++◌, length, get_or, take, drop, ap, ◌∙◌, arith, length-drop, length-take, length-append, get_or-drop, get_or-take, append-nil}
+use Rattle.std.proofs.Common.{◌≡◌, ℕ, ◌+◌, ◌-◌, ◌<◌, ◌≤◌, List, [], ◌++◌, length, get_or, take, drop, ap, ◌∙◌, arith, length-drop}
+use Rattle.std.proofs.Common.{length-take, length-append, get_or-drop, get_or-take, append-nil}
 use Rattle.std.proofs.lemmas.List.{get_or_append_left, get_or-append_right, take_all, drop-drop, drop_all}
 use borrow.Rule.Slice.PartMut.{put_mid}
 use Rattle.vol_bytes.specs.Field.{SameOutside, u16_at, u32_at, u64_at}

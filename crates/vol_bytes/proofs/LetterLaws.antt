@@ -1,14 +1,17 @@
 -- Letters of name texts: which one stands in front of a text, and the texts and units that letters spell.
-use Rattle.std.proofs.Common.{◌≡◌, ◌≢◌, not, ℕ, suc, zero, ◌-◌, ◌/◌, ◌%◌, ◌<◌, true, false, List, [], ◌∷◌, ◌++◌, length, drop, get_or, refl, sym, ap, cond, nat_lt, Bool, ◌∙◌, arith, append-nil, length-append}
+use Rattle.std.proofs.Common.{◌≡◌, ◌≢◌, not, ℕ, suc, zero, ◌-◌, ◌/◌, ◌%◌, ◌<◌, true, false, List, [], ◌∷◌, ◌++◌, length, drop, get_or, refl}
+use Rattle.std.proofs.Common.{sym, ap, cond, nat_lt, Bool, ◌∙◌, arith, append-nil, length-append}
 use Rattle.std.specs.Prelude.{All, flat_map, encode_utf8, slice_index, if◌then◌else◌}
 use Rattle.std.specs.Char.{IsScalar}
 use Rattle.std.specs.Char.Escape.{encode_utf16}
 use Rattle.std.specs.Char.Utf16.{surrogate_pair_char}
 use Rattle.std.proofs.lemmas.Bool.Decides.{nat_tests}
 use Rattle.std.specs.Str.{IsUtf8}
-use Rattle.std.proofs.lemmas.Str.{encode_same, encode_ascii, len_utf8_bounds, length-encode, IsUtf8-append, IsUtf8-encode, IsUtf8-nil, IsUtf8-from_ascii}
+use Rattle.std.proofs.lemmas.Str.{encode_same, encode_ascii, len_utf8_bounds, length-encode, IsUtf8-append}
+use Rattle.std.proofs.lemmas.Str.{IsUtf8-encode, IsUtf8-nil, IsUtf8-from_ascii}
 use Rattle.std.proofs.lemmas.List.Elements.{All-nil, All-cons, All-head, All-tail}
-use Rattle.vol_bytes.specs.NameText.{are_pair, name_text, printed_unit, escape_digit, escape_of, is_escaped, IsLetter, IsNameText, IsSpelled, letter_text, letter_units}
+use Rattle.vol_bytes.specs.NameText.{are_pair, name_text, printed_unit, escape_digit, escape_of, is_escaped, IsLetter, IsNameText}
+use Rattle.vol_bytes.specs.NameText.{IsSpelled, letter_text, letter_units}
 use Rattle.vol_bytes.specs.declared.letter.Letter.{Letter}
 use Rattle.vol_bytes.specs.declared.letter.Letter.TheVariants.{Escaped, Plain}
 
@@ -35,11 +38,16 @@ IsDigit-escape_digit (suc (suc (suc (suc (suc (suc (suc (suc zero)))))))) h = re
 IsDigit-escape_digit (suc (suc (suc (suc (suc (suc (suc (suc (suc zero))))))))) h = record { ascii = omega arith; back = refl }
 IsDigit-escape_digit (suc (suc (suc (suc (suc (suc (suc (suc (suc (suc zero)))))))))) h = record { ascii = omega arith; back = refl }
 IsDigit-escape_digit (suc (suc (suc (suc (suc (suc (suc (suc (suc (suc (suc zero))))))))))) h = record { ascii = omega arith; back = refl }
-IsDigit-escape_digit (suc (suc (suc (suc (suc (suc (suc (suc (suc (suc (suc (suc zero)))))))))))) h = record { ascii = omega arith; back = refl }
-IsDigit-escape_digit (suc (suc (suc (suc (suc (suc (suc (suc (suc (suc (suc (suc (suc zero))))))))))))) h = record { ascii = omega arith; back = refl }
-IsDigit-escape_digit (suc (suc (suc (suc (suc (suc (suc (suc (suc (suc (suc (suc (suc (suc zero)))))))))))))) h = record { ascii = omega arith; back = refl }
-IsDigit-escape_digit (suc (suc (suc (suc (suc (suc (suc (suc (suc (suc (suc (suc (suc (suc (suc zero))))))))))))))) h = record { ascii = omega arith; back = refl }
-IsDigit-escape_digit (suc (suc (suc (suc (suc (suc (suc (suc (suc (suc (suc (suc (suc (suc (suc (suc n)))))))))))))))) h = absurd (omega arith)
+IsDigit-escape_digit (suc (suc (suc (suc (suc (suc (suc (suc (suc (suc (suc (suc zero)))))))))))) h =
+    record { ascii = omega arith; back = refl }
+IsDigit-escape_digit (suc (suc (suc (suc (suc (suc (suc (suc (suc (suc (suc (suc (suc zero))))))))))))) h =
+    record { ascii = omega arith; back = refl }
+IsDigit-escape_digit (suc (suc (suc (suc (suc (suc (suc (suc (suc (suc (suc (suc (suc (suc zero)))))))))))))) h =
+    record { ascii = omega arith; back = refl }
+IsDigit-escape_digit (suc (suc (suc (suc (suc (suc (suc (suc (suc (suc (suc (suc (suc (suc (suc zero))))))))))))))) h =
+    record { ascii = omega arith; back = refl }
+IsDigit-escape_digit (suc (suc (suc (suc (suc (suc (suc (suc (suc (suc (suc (suc (suc (suc (suc (suc n)))))))))))))))) h =
+    absurd (omega arith)
 
 -- the character in front of a text that begins with an ASCII byte
 pub char-front : (char byte : ℕ) (rest more : List ℕ) → byte < 128 → encode_utf8 char ++ rest ≡ byte ∷ more → (char ≡ byte) × (rest ≡ more)
@@ -133,13 +141,15 @@ blocked : (text units : List ℕ) (letters : List Letter) → 0 < length text
     → ((letter : Letter) (rest : List ℕ) → IsLetter letter → text ≡ letter_text letter ++ rest → ⊥)
     → All IsLetter letters → text ≡ flat_map letter_text letters → ⊥
 blocked text units [] some never each written = let none : length text ≡ 0 = ap length written in omega (arith, some, none)
-blocked text units (first ∷ letters) some never each written = never first (flat_map letter_text letters) (All-head IsLetter first letters each) written
+blocked text units (first ∷ letters) some never each written =
+    never first (flat_map letter_text letters) (All-head IsLetter first letters each) written
 
 pub IsSpelled-blocked : (text units : List ℕ) → 0 < length text
     → ((letter : Letter) (rest : List ℕ) → IsLetter letter → text ≡ letter_text letter ++ rest → ⊥) → IsSpelled text units → ⊥
 IsSpelled-blocked text units some never spelled = blocked text units spelled.letters some never spelled.each spelled.written
 
-ended : (text : List ℕ) (letters : List Letter) → ((letter : Letter) (rest : List ℕ) → IsLetter letter → text ≡ letter_text letter ++ rest → ⊥)
+ended : (text : List ℕ) (letters : List Letter)
+    → ((letter : Letter) (rest : List ℕ) → IsLetter letter → text ≡ letter_text letter ++ rest → ⊥)
     → All IsLetter letters → text ≡ flat_map letter_text letters → IsSpelled text []
 ended text [] never each written = IsSpelled-empty text (ap length written)
 ended text (first ∷ letters) never each written =
@@ -185,7 +195,9 @@ IsUtf8-letter (Escaped unit) is = IsUtf8-from_ascii (escape_of unit) (escape-asc
 
 letters-utf8 : (letters : List Letter) → All IsLetter letters → IsUtf8 (flat_map letter_text letters)
 letters-utf8 [] each = IsUtf8-nil
-letters-utf8 (letter ∷ letters) each = IsUtf8-append _ _ (IsUtf8-letter letter (All-head IsLetter letter letters each)) (letters-utf8 letters (All-tail IsLetter letter letters each))
+letters-utf8 (letter ∷ letters) each =
+    IsUtf8-append _ _ (IsUtf8-letter letter (All-head IsLetter letter letters each))
+    (letters-utf8 letters (All-tail IsLetter letter letters each))
 
 pub IsSpelled-utf8 : (text units : List ℕ) → IsSpelled text units → IsUtf8 text
 IsSpelled-utf8 text units spelled = rw spelled.written (letters-utf8 spelled.letters spelled.each)
@@ -196,7 +208,8 @@ nothing : (text units : List ℕ) (letters : List Letter) → text ≡ [] → te
 nothing text units [] none written meant = meant
 nothing text units (letter ∷ letters) none written meant =
     let some = letter-some letter (flat_map letter_text letters) in
-    let len : length (letter_text letter ++ flat_map letter_text letters) ≡ 0 = ap length (sym written ∙ none) in absurd (omega (arith, some, len))
+    let len : length (letter_text letter ++ flat_map letter_text letters) ≡ 0 = ap length (sym written ∙ none) in
+    absurd (omega (arith, some, len))
 
 one : (text units other : List ℕ) (letters : List Letter) → All IsLetter letters → text ≡ flat_map letter_text letters
     → units ≡ flat_map letter_units letters → IsSpelled text other → units ≡ other
@@ -211,14 +224,16 @@ pub one_name : (text units other : List ℕ) → IsNameText text units → IsNam
 one_name text units other a b = one text units other a.spelled.letters a.spelled.each a.spelled.written a.spelled.meant b.spelled
 
 -- what stands in front of a text that begins with a character that is no letter
-pub after_percent : (letter : Letter) (char : ℕ) (behind rest : List ℕ) → char ≡ 0x25 → encode_utf8 char ++ behind ≡ letter_text letter ++ rest
+pub after_percent : (letter : Letter) (char : ℕ) (behind rest : List ℕ) → char ≡ 0x25
+    → encode_utf8 char ++ behind ≡ letter_text letter ++ rest
     → IsLetter letter → ((unit : ℕ) (rest : List ℕ) → unit < 0x10000 → 0x25 ∷ behind ≡ escape_of unit ++ rest → ⊥) → ⊥
 after_percent (Escaped unit) char behind rest is e small never =
     let front = ap (λ x. x ++ behind) (ap encode_utf8 is ∙ encode_ascii 0x25 (omega arith)) in never unit rest small (sym front ∙ e)
 after_percent (Plain other) char behind rest is e plain never =
     percent (ap is_escaped (sym is ∙ (encode_same char other behind rest e).0) ∙ plain.1)
 
-pub no_letter : (letter : Letter) (char : ℕ) (plain : Bool) (behind rest : List ℕ) → char ≢ 0x25 → plain ≡ not (is_escaped char) → plain ≡ false
+pub no_letter : (letter : Letter) (char : ℕ) (plain : Bool) (behind rest : List ℕ) → char ≢ 0x25
+    → plain ≡ not (is_escaped char) → plain ≡ false
     → IsLetter letter → encode_utf8 char ++ behind ≡ letter_text letter ++ rest → ⊥
 no_letter (Escaped unit) char plain behind rest other is no_plain small e = other (char-front char 0x25 behind _ (omega arith) e).0
 no_letter (Plain found) char plain behind rest other is no_plain letter e =
@@ -236,7 +251,8 @@ unit-front : (escaped : Bool) (unit : ℕ) (rest more : List ℕ) → is_escaped
     → IsSpelled ((if escaped then escape_of unit else encode_utf8 unit) ++ rest) (unit ∷ more)
 unit-front true unit rest more is small spelled = IsSpelled-front (Escaped unit) _ rest _ more small refl refl spelled
 unit-front false unit rest more is small spelled =
-    IsSpelled-front (Plain unit) _ rest _ more (plain-scalar unit small is, is) refl (ap (λ x. x ++ more) (sym (one-unit unit small))) spelled
+    IsSpelled-front (Plain unit) _ rest _ more (plain-scalar unit small is, is) refl
+    (ap (λ x. x ++ more) (sym (one-unit unit small))) spelled
 
 -- two units that are one character
 pair-plain : (high low : ℕ) → are_pair high low ≡ true
@@ -261,7 +277,8 @@ pub IsSpelled-name_text : (units : List ℕ) → All (λ unit. unit < 0x10000) u
 unfolding name_text
 IsSpelled-name_text [] small = IsSpelled-none
 IsSpelled-name_text (unit ∷ []) small =
-    rw (sym (append-nil (printed_unit unit))) (unit-front (is_escaped unit) unit [] [] refl (All-head (λ u. u < 0x10000) unit [] small) IsSpelled-none)
+    rw (sym (append-nil (printed_unit unit)))
+    (unit-front (is_escaped unit) unit [] [] refl (All-head (λ u. u < 0x10000) unit [] small) IsSpelled-none)
 IsSpelled-name_text (unit ∷ next ∷ units) small =
     let rest = All-tail (λ u. u < 0x10000) unit (next ∷ units) small in
     either (are_pair unit next) unit next units refl (All-head (λ u. u < 0x10000) unit (next ∷ units) small)

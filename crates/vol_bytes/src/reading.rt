@@ -1,5 +1,6 @@
 //! Names read from their texts.
-ghost use Rattle.std.specs.Prelude.{◌≡◌, ◌+◌, ◌*◌, ◌<◌, ◌↔◌, ◌++◌, ◌∷◌, ℕ, List, true, false, not, None, length, IsErrOf, IfOk, IfSome, OnOk};
+ghost use Rattle.std.specs.Prelude.{◌≡◌, ◌+◌, ◌*◌, ◌<◌, ◌↔◌, ◌++◌, ◌∷◌, ℕ, List, true, false, not, None, length, IsErrOf};
+ghost use Rattle.std.specs.Prelude.{IfOk, IfSome, OnOk};
 ghost use Rattle.std.specs.Str.Iter.{chars_rest};
 ghost use Rattle.vol_bytes.specs.NameText.{escape_digit, escape_of, is_escaped, IsLetter, IsNameText, IsSpelled, letter_text, letter_units};
 ghost use Rattle.vol_bytes.specs.declared.letter.Letter.{Letter};

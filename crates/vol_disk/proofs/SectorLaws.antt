@@ -1,6 +1,8 @@
 -- A sector that is written, and all others.
-use Rattle.std.proofs.Common.{◌≡◌, ◌≢◌, ℕ, ◌+◌, ◌-◌, ◌*◌, ◌<◌, ◌≤◌, List, [], ◌++◌, length, take, drop, get_or, Some, sym, ap, ◌∙◌, arith, append_assoc, length-append, length-drop, inl, inr}
-use Rattle.std.proofs.lemmas.List.{length-take, length-take-le, drop-drop, drop_all, same_lists, drop_at, take_at, get_or_append_left, get_or-take, get_or-drop, get_or-append_right}
+use Rattle.std.proofs.Common.{◌≡◌, ◌≢◌, ℕ, ◌+◌, ◌-◌, ◌*◌, ◌<◌, ◌≤◌, List, [], ◌++◌, length, take, drop, get_or, Some, sym, ap, ◌∙◌, arith}
+use Rattle.std.proofs.Common.{append_assoc, length-append, length-drop, inl, inr}
+use Rattle.std.proofs.lemmas.List.{length-take, length-take-le, drop-drop, drop_all, same_lists, drop_at, take_at, get_or_append_left}
+use Rattle.std.proofs.lemmas.List.{get_or-take, get_or-drop, get_or-append_right}
 use Rattle.std.proofs.lemmas.Bool.{cases_lt}
 use borrow.Rule.Slice.PartMut.{put_mid}
 use Rattle.vol_disk.specs.Contents.{sector_of, with_sector, sector_in}

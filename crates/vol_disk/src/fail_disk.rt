@@ -1,5 +1,6 @@
 //! A disk that fails at the calls that it was told.
-ghost use Rattle.std.specs.Prelude.{◌≡◌, ◌≢◌, ◌⊎◌, ◌+◌, ◌<◌, ◌≤◌, ℕ, [], find, is_some, is_ok, IsErr, IsNone, IfSome, OnSome, IfNone, OnOk, OnErr, IsTrue, false, vec_len};
+ghost use Rattle.std.specs.Prelude.{◌≡◌, ◌≢◌, ◌⊎◌, ◌+◌, ◌<◌, ◌≤◌, ℕ, [], find, is_some, is_ok, IsErr, IsNone, IfSome, OnSome, IfNone, OnOk};
+ghost use Rattle.std.specs.Prelude.{OnErr, IsTrue, false, vec_len};
 ghost use Rattle.vol_disk.specs.Contents.{IsTold, Writes, sector_in, settled_more};
 ghost use Rattle.vol_disk.specs.Count.{next_count, Rose, CountsFault};
 

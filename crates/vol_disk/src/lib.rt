@@ -5,7 +5,8 @@
 //! causes of its failures and its counts are all that is known.
 #![tactic(auto)]
 
-ghost use Rattle.std.specs.Prelude.{◌≡◌, ◌≢◌, ◌⊎◌, ◌+◌, ◌*◌, ◌^◌, ◌<◌, ◌≤◌, ℕ, [], List, length, take, Option, IfSome, IfOk, OnOk, OnErr, is_some};
+ghost use Rattle.std.specs.Prelude.{◌≡◌, ◌≢◌, ◌⊎◌, ◌+◌, ◌*◌, ◌^◌, ◌<◌, ◌≤◌, ℕ, [], List, length, take, Option, IfSome, IfOk};
+ghost use Rattle.std.specs.Prelude.{OnOk, OnErr, is_some};
 ghost use Rattle.vol_disk.specs.Count.{next_count, CountsFault};
 ghost use Rattle.vol_disk.specs.Contents.{IsTold, sector_in, map_told, with_sector, settled_more};
 ghost use Rattle.vol_disk.specs.Stream.{Gives, IsAppended};

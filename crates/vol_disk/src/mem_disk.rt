@@ -1,5 +1,6 @@
 //! A disk in memory.
-ghost use Rattle.std.specs.Prelude.{◌≡◌, ◌≢◌, ◌↔◌, ◌+◌, ◌-◌, ◌*◌, ◌/◌, ◌%◌, ◌^◌, ◌<◌, ◌≤◌, ℕ, List, [], ◌∷◌, ◌++◌, All, Some, length, take, vec_len, vec_capacity, max, true, false, IsErr, IsOk, OnOk, OnErr};
+ghost use Rattle.std.specs.Prelude.{◌≡◌, ◌≢◌, ◌↔◌, ◌+◌, ◌-◌, ◌*◌, ◌/◌, ◌%◌, ◌^◌, ◌<◌, ◌≤◌, ℕ, List, [], ◌∷◌, ◌++◌, All, Some, length, take};
+ghost use Rattle.std.specs.Prelude.{vec_len, vec_capacity, max, true, false, IsErr, IsOk, OnOk, OnErr};
 ghost use Rattle.vol_disk.specs.Contents.{sector_of, with_sector};
 ghost use Rattle.vol_disk.specs.Count.{next_count};
 ghost use Rattle.vol_disk.specs.Replay.{replay, contents_at};

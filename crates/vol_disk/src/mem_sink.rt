@@ -1,5 +1,6 @@
 //! A sink for bytes in memory.
-ghost use Rattle.std.specs.Prelude.{◌≡◌, ◌↔◌, ◌⊎◌, ◌+◌, ◌-◌, ◌<◌, ◌≤◌, [], ◌++◌, Some, length, take, min, max, vec_len, vec_capacity, is_ok, IsErr, IfOk, OnOk, OnErr};
+ghost use Rattle.std.specs.Prelude.{◌≡◌, ◌↔◌, ◌⊎◌, ◌+◌, ◌-◌, ◌<◌, ◌≤◌, [], ◌++◌, Some, length, take, min, max, vec_len, vec_capacity};
+ghost use Rattle.std.specs.Prelude.{is_ok, IsErr, IfOk, OnOk, OnErr};
 ghost use Rattle.vol_disk.specs.Listing.{IsListed, listed_after};
 
 use crate::listed::Listed;

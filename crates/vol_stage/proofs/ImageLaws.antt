@@ -46,7 +46,8 @@ replay-plain [] all size sector fits not = refl
 replay-plain (write ∷ writes) all size sector fits not =
     replay-plain writes (with_sector all write.sector write.bytes) size sector (Fits-behind write writes all size fits)
     (λ found. let inside = found.1 in not (suc found.0, omega arith, found.2))
-    ∙ sector_in-other all write.bytes size write.sector sector fits.sized (first-within write writes all size fits) (first-whole write writes all size fits)
+    ∙ sector_in-other all write.bytes size write.sector sector fits.sized (first-within write writes all size fits)
+    (first-whole write writes all size fits)
     (λ same. not (0, omega arith, sym same))
 
 -- no write behind the first is of its sector
@@ -65,7 +66,8 @@ replay-write (first ∷ writes) all size zero write fits rising below is =
     subst (λ (q : Write). sector_in (Some (replay (first ∷ writes) all)) q.sector ≡ q.bytes) is
     (replay-plain writes (with_sector all first.sector first.bytes) size first.sector (Fits-behind first writes all size fits)
     (not-behind first writes rising)
-    ∙ sector_in-same all first.bytes size first.sector fits.sized (first-within first writes all size fits) (first-whole first writes all size fits))
+    ∙ sector_in-same all first.bytes size first.sector fits.sized (first-within first writes all size fits)
+    (first-whole first writes all size fits))
 replay-write (first ∷ writes) all size (suc k) write fits rising below is =
     replay-write writes (with_sector all first.sector first.bytes) size k write (Fits-behind first writes all size fits)
     (λ i j d a b. rising (suc i) (suc j) d (omega arith) (omega arith)) (omega arith) is

@@ -31,7 +31,8 @@ broken-file : (view : VolumeView) (f n : ℕ) → MeetsReferences (records_of vi
     → ¬ (MeetsLimits (records_of view) f)
 broken-file view f n right breaks meets =
     let records = records_of view in
-    let base = some-value (records.record_at f) (λ r. IsTrue (is_base r)) (file-held view f n breaks.record_there right breaks.at breaks.file) in
+    let base = some-value (records.record_at f) (λ r. IsTrue (is_base r))
+    (file-held view f n breaks.record_there right breaks.at breaks.file) in
     let all = subst (λ o. IfSome o (λ r. IsTrue (is_base r) → All (IsInLimits f) (parts records f))) base.1 meets base.2 in
     breaks.broken (All-from_Contains (IsInLimits f) breaks.record_there.parts (λ part h.
     All-contains (IsInLimits f) (parts records f) part all (Contains-HoldsPart records f n part (record {

@@ -1,5 +1,6 @@
 -- What the names of a file come to.
-use Rattle.std.specs.Prelude.{◌≡◌, ℕ, ◌==◌, not, nat_lt, Bool, List, map, filter, find, count_by, length, slice_index_or, Option, Some, None, option_map, if◌then◌else◌}
+use Rattle.std.specs.Prelude.{◌≡◌, ℕ, ◌==◌, not, nat_lt, Bool, List, map, filter, find, count_by, length, slice_index_or, Option, Some}
+use Rattle.std.specs.Prelude.{None, option_map, if◌then◌else◌}
 use Rattle.record_notes.specs.declared.names.NameFact.{NameFact}
 use Rattle.volume_clauses.specs.declared.tallies.Tally.{Tally}
 use Rattle.record_notes.specs.Names.{HeldName, PlacedName, is_of_file, told_name}

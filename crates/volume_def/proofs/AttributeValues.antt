@@ -13,12 +13,14 @@ use Rattle.volume_def.proofs.SaidLaws.{value-said}
 use Rattle.volume_def.proofs.ValueLaws.{value-frame}
 
 -- it is the same where the parts of the file say the same, in any order
-pub attribute_value-said : (view : VolumeView) (f : ℕ) (all other : List Part) (part like : Part) → SameItems (map said_by all) (map said_by other)
+pub attribute_value-said : (view : VolumeView) (f : ℕ) (all other : List Part) (part like : Part)
+    → SameItems (map said_by all) (map said_by other)
     → said_by like ≡ said_by part → AreAttribute (cluster_bytes view.layout) f (parts_like part all)
     → attribute_value view other like ≡ attribute_value view all part
 attribute_value-said view f all other part like h same s =
     ap (λ (x : Said). unwrap_or (content_value x.content) (value_on view (filter (is_of x.kind x.name) other))) same
-    ∙ ap (unwrap_or (content_value part.content)) (value-said view.cluster (cluster_bytes view.layout) f (parts_like part all) (parts_like part other)
+    ∙ ap (unwrap_or (content_value part.content))
+    (value-said view.cluster (cluster_bytes view.layout) f (parts_like part all) (parts_like part other)
     (parts_of-said part.kind part.name all other h) s)
 
 -- and where the clusters of its stream hold what they held

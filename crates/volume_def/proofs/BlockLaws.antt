@@ -1,5 +1,6 @@
 -- Where the sectors of the table lie, and what disks that agree on some sectors have in common.
-use Rattle.std.proofs.Common.{◌≡◌, ℕ, ◌+◌, ◌-◌, ◌*◌, ◌/◌, ◌%◌, ◌<◌, ◌≤◌, List, [], ◌∷◌, ◌++◌, length, take, Option, Some, None, inl, inr, refl, sym, ap, ◌∙◌, arith, append-nil}
+use Rattle.std.proofs.Common.{◌≡◌, ℕ, ◌+◌, ◌-◌, ◌*◌, ◌/◌, ◌%◌, ◌<◌, ◌≤◌, List, [], ◌∷◌, ◌++◌, length, take, Option, Some, None, inl, inr}
+use Rattle.std.proofs.Common.{refl, sym, ap, ◌∙◌, arith, append-nil}
 use Rattle.std.specs.Prelude.{All, IsSomeAnd}
 use Rattle.std.specs.Option.{option_map}
 use Rattle.std.proofs.lemmas.Bool.{cases_lt}
@@ -134,7 +135,8 @@ pub cluster_of-same : (old new : ℕ → List ℕ) (layout : TableLayout) (c : �
 unfolding cluster_of
 cluster_of-same old new layout c same =
     let per = layout.cluster_sectors in
-    flat_map-range_agree (λ i. old (c * per + i)) (λ i. new (c * per + i)) 0 per (λ i l u. same (c * per + i) (div-mul-add c per i (omega arith)))
+    flat_map-range_agree (λ i. old (c * per + i)) (λ i. new (c * per + i)) 0 per
+    (λ i l u. same (c * per + i) (div-mul-add c per i (omega arith)))
 
 -- One block written.
 

@@ -10,7 +10,8 @@ use Rattle.volume_def.specs.Edits.{Said}
 use Rattle.volume_def.specs.Files.{Clusters, Content, Part, Value}
 
 run_code : Coded Run
-run_code = code_by (Option ℕ × ℕ) (coded× (coded_option coded_ℕ) coded_ℕ) (λ r. (r.lcn, r.len)) (λ p. record { lcn = p.0; len = p.1 }) (λ _. refl)
+run_code = code_by (Option ℕ × ℕ) (coded× (coded_option coded_ℕ) coded_ℕ) (λ r. (r.lcn, r.len))
+    (λ p. record { lcn = p.0; len = p.1 }) (λ _. refl)
 
 sizes_code : Coded Sizes
 sizes_code = code_by (ℕ × (ℕ × (ℕ × (ℕ × ℕ)))) (coded× coded_ℕ (coded× coded_ℕ (coded× coded_ℕ (coded× coded_ℕ coded_ℕ))))
@@ -45,10 +46,12 @@ part_code = code_by (ℕ × (ℕ × (List ℕ × (ℕ × (ℕ × Content)))))
 
 pub said_code : Coded Said
 said_code = code_by (ℕ × (List ℕ × (ℕ × Content))) (coded× coded_ℕ (coded× (coded_list coded_ℕ) (coded× coded_ℕ content_code)))
-    (λ s. (s.kind, (s.name, (s.flags, s.content)))) (λ p. record { kind = p.0; name = p.1.0; flags = p.1.1.0; content = p.1.1.1 }) (λ _. refl)
+    (λ s. (s.kind, (s.name, (s.flags, s.content))))
+    (λ p. record { kind = p.0; name = p.1.0; flags = p.1.1.0; content = p.1.1.1 }) (λ _. refl)
 
 reference_code : Coded Reference
-reference_code = code_by (ℕ × ℕ) (coded× coded_ℕ coded_ℕ) (λ r. (r.number, r.sequence)) (λ p. record { number = p.0; sequence = p.1 }) (λ _. refl)
+reference_code = code_by (ℕ × ℕ) (coded× coded_ℕ coded_ℕ) (λ r. (r.number, r.sequence))
+    (λ p. record { number = p.0; sequence = p.1 }) (λ _. refl)
 
 pub entry_code : Coded ListEntry
 entry_code = code_by (ℕ × (List ℕ × (ℕ × (Reference × ℕ))))

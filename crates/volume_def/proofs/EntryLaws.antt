@@ -115,7 +115,8 @@ entries-moved old new from to was now entries entries' m plain h r = record {
       let kept = ap (count_by p) (entries_in-kept m.between new to [] (now ∷ []) m.comes (parts new f)
       ∙ entries_in-kept old m.between from (was ∷ []) [] m.leaves (parts new f)) in
       let leaves = Replaces-count p _ _ _ _ (entries_in-Replaces old _ _ _ _ (parts-own old m.between from (was ∷ []) [] m.leaves)) in
-      let comes = Replaces-count p _ _ _ _ (entries_in-Replaces old _ _ _ _ (parts-own_at m.between new to f [] (now ∷ []) m.comes m.file)) in
+      let comes = Replaces-count p _ _ _ _
+      (entries_in-Replaces old _ _ _ _ (parts-own_at m.between new to f [] (now ∷ []) m.comes m.file)) in
       let gone = ap (count_by p) (entries_in-one old was plain) in
       let come = ap (count_by p) (entries_in-one old now (ap (λ (s : Said). eqb s.kind ATTRIBUTE_LIST) m.same ∙ plain)) in
       let replaced = Replaces-count p entries entries' _ _ r in

@@ -1,5 +1,6 @@
 -- The extents of a stream: at most one holds a cluster, and at most one is the first.
-use Rattle.std.proofs.Common.{◌≡◌, ◌<◌, ◌≤◌, ◌+◌, ◌-◌, ℕ, true, false, cond, All, List, [], ◌∷◌, length, Some, refl, sym, ap, inl, inr, ◌∙◌, arith}
+use Rattle.std.proofs.Common.{◌≡◌, ◌<◌, ◌≤◌, ◌+◌, ◌-◌, ℕ, true, false, cond, All, List, [], ◌∷◌, length, Some, refl, sym, ap, inl}
+use Rattle.std.proofs.Common.{inr, ◌∙◌, arith}
 use Rattle.std.specs.Prelude.{IsSome, IsSomeAnd}
 use Rattle.std.proofs.lemmas.Bool.{and_from, and_left, and_right, cases_lt, le-leb, le-ltb, lt-leb, lt-ltb, ne_eqb}
 use Rattle.std.proofs.lemmas.List.Elements.{All-head}
@@ -22,7 +23,8 @@ abbrev pub Follow : ℕ → List Part → Type 0
 Follow vcn [] = Unit {0}
 Follow vcn (part ∷ parts) = (first_vcn_of part.content ≡ vcn) × Follow (vcn + part_clusters part) parts
 
-first-begins : (vcn : ℕ) (content : Content) → IsSomeAnd (content_extent content) (λ extent. extent.sizes.first ≡ vcn) → first_vcn_of content ≡ vcn
+first-begins : (vcn : ℕ) (content : Content) → IsSomeAnd (content_extent content) (λ extent. extent.sizes.first ≡ vcn)
+    → first_vcn_of content ≡ vcn
 first-begins vcn (Value value) h = absurd h
 first-begins vcn (Clusters extent runs) h = h
 
@@ -32,7 +34,8 @@ first-value (Clusters extent runs) h = cc
 
 Follow-from : (vcn : ℕ) (parts : List Part) → FollowFrom vcn parts → Follow vcn parts
 Follow-from vcn [] h = tt
-Follow-from vcn (part ∷ parts) (begins, rest) = (first-begins vcn part.content begins.first, Follow-from (vcn + part_clusters part) parts rest)
+Follow-from vcn (part ∷ parts) (begins, rest) =
+    (first-begins vcn part.content begins.first, Follow-from (vcn + part_clusters part) parts rest)
 
 pub Follow-whole : (parts : List Part) → AreWhole parts → Follow 0 parts
 Follow-whole [] h = tt
@@ -42,7 +45,8 @@ Follow-whole (part ∷ next ∷ parts) h = Follow-from 0 (part ∷ next ∷ part
 
 -- Whether a part holds a cluster.
 
-pub holds-here : (vcn : ℕ) (part : Part) → first_vcn_of part.content ≤ vcn → vcn < first_vcn_of part.content + part_clusters part → holds_vcn vcn part ≡ true
+pub holds-here : (vcn : ℕ) (part : Part) → first_vcn_of part.content ≤ vcn → vcn < first_vcn_of part.content + part_clusters part
+    → holds_vcn vcn part ≡ true
 holds-here vcn part a b = and_from _ _ (le-leb _ _ a) (lt-ltb _ _ b)
 
 holds-later : (vcn : ℕ) (part : Part) → first_vcn_of part.content + part_clusters part ≤ vcn → holds_vcn vcn part ≡ false
@@ -89,7 +93,8 @@ count-later from (part ∷ parts) h (e, f) =
     let rest = count-later (from + part_clusters part) parts (omega arith) f in
     omega arith
 
-count-first : (parts : List Part) → Follow 0 parts → (1 < length parts → All (λ part. 1 ≤ part_clusters part) parts) → count_by is_first parts ≤ 1
+count-first : (parts : List Part) → Follow 0 parts → (1 < length parts → All (λ part. 1 ≤ part_clusters part) parts)
+    → count_by is_first parts ≤ 1
 count-first [] f s = omega arith
 count-first (part ∷ []) f s =
     let c = count-cons is_first part [] in
@@ -123,7 +128,8 @@ pub spot_at-SameItems : (xs ys : List Part) (vcn : ℕ) → SameItems xs ys → 
 spot_at-SameItems xs ys vcn h one = ap (λ o. spot_by o vcn) (find-SameItems part_code (holds_vcn vcn) xs ys h one)
 
 -- the extents give what their runs give as one list
-spot_at-follow : (parts : List Part) (from vcn : ℕ) → Follow from parts → from ≤ vcn → spot_at parts vcn ≡ spot_of (joined_runs parts) (vcn - from)
+spot_at-follow : (parts : List Part) (from vcn : ℕ) → Follow from parts → from ≤ vcn
+    → spot_at parts vcn ≡ spot_of (joined_runs parts) (vcn - from)
 spot_at-follow [] from vcn f h = sym (spot_of-none (vcn - from))
 spot_at-follow (part ∷ parts) from vcn (e, f) h = elim (cases_lt vcn (first_vcn_of part.content + part_clusters part)) [
   | inl lt ↦

@@ -32,11 +32,13 @@ parts_of-said kind name xs ys h =
 abbrev IsBaseAt : Records → ℕ → Type 0
 IsBaseAt records f = IsSomeAnd (records.record_at f) (λ r. IsTrue (is_base r))
 
-if_base : (P : Type 0) (found : Option Record) → (IsSomeAnd found (λ r. IsTrue (is_base r)) → P) → IfSome found (λ r. IsTrue (is_base r) → P)
+if_base : (P : Type 0) (found : Option Record) → (IsSomeAnd found (λ r. IsTrue (is_base r)) → P)
+    → IfSome found (λ r. IsTrue (is_base r) → P)
 if_base P None claim = tt
 if_base P (Some r) claim = claim
 
-base-found : (found other : Option Record) → found ≡ other → IsSomeAnd found (λ r. IsTrue (is_base r)) → IsSomeAnd other (λ r. IsTrue (is_base r))
+base-found : (found other : Option Record) → found ≡ other → IsSomeAnd found (λ r. IsTrue (is_base r))
+    → IsSomeAnd other (λ r. IsTrue (is_base r))
 base-found found other e is = subst (λ o. IsSomeAnd o (λ r. IsTrue (is_base r))) e is
 
 -- an edit leaves which records are base records
@@ -57,7 +59,8 @@ stream-said : (size f : ℕ) (old new : List Part) (part : Part) → SameItems (
     → AreAttribute size f (parts_like part new)
 stream-said size f old new part h all c other =
     let there = Contains-from_map said_by old (said_by part)
-    (SameItems-Contains said_code (map said_by new) (map said_by old) (said_by part) (SameItems-sym _ _ h) (Contains-map said_by new part c)) in
+    (SameItems-Contains said_code (map said_by new) (map said_by old) (said_by part) (SameItems-sym _ _ h)
+    (Contains-map said_by new part c)) in
     let like : Part = there.0 in
     let kind : like.kind ≡ part.kind = ap (λ (s : Said). s.kind) there.2 in
     let Is : Part → Type 0 = λ p. p.kind ≢ FILE_NAME → AreAttribute size f (parts_like p old) in
@@ -89,11 +92,13 @@ MeetsExtents-moved old new size from to f was now m meets =
     (base-kept m.between new to f [] (now ∷ []) m.comes is)) meets where
       same : SameItems (map said_by (parts old f)) (map said_by (parts new f))
       same = elim (cases_eq (file_of from m.leaves.was_record) f) [
-        | inl own ↦ subst (λ g. SameItems (map said_by (parts old g)) (map said_by (parts new g))) own (parts-moved old new from to was now m)
+        | inl own ↦ subst (λ g. SameItems (map said_by (parts old g)) (map said_by (parts new g))) own
+            (parts-moved old new from to was now m)
         | inr ne ↦ SameItems-same _ _ (ap (map said_by) (sym (parts-unmoved old new from to f was now m ne)))
       ]
 
-pub MeetsExtents-taken : (old new : Records) (size n f : ℕ) → TakesEmpty old new n → f ≢ n → MeetsExtents old size f → MeetsExtents new size f
+pub MeetsExtents-taken : (old new : Records) (size n f : ℕ) → TakesEmpty old new n → f ≢ n → MeetsExtents old size f
+    → MeetsExtents new size f
 MeetsExtents-taken old new size n f t ne meets =
     let same = SameItems-same _ _ (ap (map said_by) (sym (parts-taken old new n f t))) in
     MeetsExtents-said old new size f same (base-found (new.record_at f) (old.record_at f) (t.changes.others f ne)) meets

@@ -10,7 +10,8 @@ use Rattle.volume_def.specs.View.{VolumeView}
 use Rattle.list_laws.proofs.MemberLaws.{nil-from_Contains}
 use Rattle.volume_def.proofs.PartLaws.{HoldsPart-Contains}
 
-base-named : (o : Option Record) (s : ℕ) → IsSomeAnd o (λ r. IsTrue (is_base r) × (r.header.sequence ≡ s)) → IsSomeAnd o (λ r. IsTrue (is_base r))
+base-named : (o : Option Record) (s : ℕ) → IsSomeAnd o (λ r. IsTrue (is_base r) × (r.header.sequence ≡ s))
+    → IsSomeAnd o (λ r. IsTrue (is_base r))
 base-named None s h = h
 base-named (Some r) s h = h.0
 

@@ -1,5 +1,6 @@
 -- What a write of a block, of its copy, or of a sector of a cluster changes of a volume, and what it leaves.
-use Rattle.std.proofs.Common.{◌≡◌, ◌≢◌, ℕ, zero, suc, ◌+◌, ◌-◌, ◌*◌, ◌/◌, ◌<◌, ◌≤◌, Bool, List, ◌++◌, length, take, drop, Some, inl, inr, refl, sym, ap, ◌∙◌, arith, length-drop}
+use Rattle.std.proofs.Common.{◌≡◌, ◌≢◌, ℕ, zero, suc, ◌+◌, ◌-◌, ◌*◌, ◌/◌, ◌<◌, ◌≤◌, Bool, List, ◌++◌, length, take, drop, Some, inl, inr}
+use Rattle.std.proofs.Common.{refl, sym, ap, ◌∙◌, arith, length-drop}
 use Rattle.std.specs.Prelude.{IsTrue}
 use Rattle.std.specs.List.{range_with_len, flat_map}
 use Rattle.std.proofs.lemmas.Bool.{cases_lt}
@@ -10,11 +11,13 @@ use Rattle.volume_def.specs.Blocks.{block_of, cluster_of, copy_of, mirror_sector
 use Rattle.volume_def.specs.Coverage.{IsOutsideTable, IsApart, times_covered}
 use Rattle.volume_def.specs.Table.{TableLayout}
 use Rattle.volume_def.specs.View.{ReplacesBlock, ReplacesPiece, WritesOne, WritesTwo, piece_of, view_of}
-use Rattle.volume_def.proofs.BlockLaws.{block_of-same, block_of-whole, cluster_of-same, copy_of-same, sector-below, table_place-below, table_place-once, table_place-times}
+use Rattle.volume_def.proofs.BlockLaws.{block_of-same, block_of-whole, cluster_of-same, copy_of-same, sector-below}
+use Rattle.volume_def.proofs.BlockLaws.{table_place-below, table_place-once, table_place-times}
 
 -- the two sectors of block n of the table were written
 module _ (told : Bool) (old new : ℕ → List ℕ) (layout : TableLayout) (n low high : ℕ) (stored : List ℕ) (is : IsApart layout)
-    (e : table_place layout (2 * n) ≡ Some low) (f : table_place layout (2 * n + 1) ≡ Some high) (w : WritesTwo told old new low high stored) where
+    (e : table_place layout (2 * n) ≡ Some low) (f : table_place layout (2 * n + 1) ≡ Some high)
+    (w : WritesTwo told old new low high stored) where
   pub block-written : 1024 * n + 1024 ≤ layout.initialized → length stored ≡ 1024 → IsTrue told → block_of new layout n ≡ stored
   block-written written len tells =
       let a : new low ≡ take 512 stored = w.low tells in
@@ -25,8 +28,10 @@ module _ (told : Bool) (old new : ℕ → List ℕ) (layout : TableLayout) (n lo
 
   pub blocks-written : (m : ℕ) → m ≢ n → block_of new layout m ≡ block_of old layout m
   blocks-written m other = block_of-same old new layout m (λ k place half at. w.others place
-      (λ (s : place ≡ low). let c : k ≡ 2 * n = table_place-once layout k (2 * n) place is.some is.apart at (e ∙ ap Some (sym s)) in other (omega arith))
-      (λ (s : place ≡ high). let c : k ≡ 2 * n + 1 = table_place-once layout k (2 * n + 1) place is.some is.apart at (f ∙ ap Some (sym s)) in other (omega arith)))
+      (λ (s : place ≡ low). let c : k ≡ 2 * n = table_place-once layout k (2 * n) place is.some is.apart at (e ∙ ap Some (sym s)) in
+      other (omega arith))
+      (λ (s : place ≡ high). let c : k ≡ 2 * n + 1 =
+      table_place-once layout k (2 * n + 1) place is.some is.apart at (f ∙ ap Some (sym s)) in other (omega arith)))
 
   pub copies-written : (m : ℕ) → m < 4 → copy_of new layout m ≡ copy_of old layout m
   copies-written m few = copy_of-same old new layout m (λ k half. w.others (mirror_sector layout + k)
@@ -116,7 +121,8 @@ module _ (told : Bool) (old new : ℕ → List ℕ) (layout : TableLayout) (n : 
       (λ s. let second = below (2 * n + 1) (omega arith) in absurd (omega arith))
 
 -- a block, and then its copy
-pub ReplacesBlock-mirrored : (told : Bool) (old mid new : ℕ → List ℕ) (layout : TableLayout) (n low high : ℕ) (stored : List ℕ) → IsApart layout
+pub ReplacesBlock-mirrored : (told : Bool) (old mid new : ℕ → List ℕ) (layout : TableLayout) (n low high : ℕ) (stored : List ℕ)
+    → IsApart layout
     → table_place layout (2 * n) ≡ Some low → table_place layout (2 * n + 1) ≡ Some high → WritesTwo told old mid low high stored
     → n < 4 → WritesTwo told mid new (mirror_sector layout + 2 * n) (mirror_sector layout + 2 * n + 1) stored
     → 1024 * n + 1024 ≤ layout.initialized → length stored ≡ 1024
@@ -124,11 +130,15 @@ pub ReplacesBlock-mirrored : (told : Bool) (old mid new : ℕ → List ℕ) (lay
 ReplacesBlock-mirrored told old mid new layout n low high stored is e f w few v written len = record {
   told = refl;
   layout = refl;
-  block = λ tells. blocks-copied told mid new layout n stored is few v n ∙ block-written told old mid layout n low high stored is e f w written len tells;
-  blocks = λ m other. blocks-copied told mid new layout n stored is few v m ∙ blocks-written told old mid layout n low high stored is e f w m other;
+  block = λ tells. blocks-copied told mid new layout n stored is few v n
+      ∙ block-written told old mid layout n low high stored is e f w written len tells;
+  blocks = λ m other. blocks-copied told mid new layout n stored is few v m
+      ∙ blocks-written told old mid layout n low high stored is e f w m other;
   copy = λ tells near. copy-copied told mid new layout n stored is few v tells;
-  copies = λ m near other. copies-copied told mid new layout n stored is few v m other ∙ copies-written told old mid layout n low high stored is e f w m near;
-  clusters = λ c out. clusters-copied told mid new layout n stored is few v c out ∙ clusters-written told old mid layout n low high stored is e f w c out;
+  copies = λ m near other. copies-copied told mid new layout n stored is few v m other
+      ∙ copies-written told old mid layout n low high stored is e f w m near;
+  clusters = λ c out. clusters-copied told mid new layout n stored is few v c out
+      ∙ clusters-written told old mid layout n low high stored is e f w c out;
   rest = λ k. rest-copied told mid new layout n stored is few v k ∙ rest-written told old mid layout n low high stored is e f w k;
 }
 
@@ -169,7 +179,8 @@ piece_of-cluster disk layout c j long lt =
     ∙ ap (λ i. disk (c * per + i)) z
 
 -- one sector of a cluster was written
-module _ (told : Bool) (old new : ℕ → List ℕ) (layout : TableLayout) (c j : ℕ) (bytes : List ℕ) (is : IsApart layout) (out : IsOutsideTable layout c)
+module _ (told : Bool) (old new : ℕ → List ℕ) (layout : TableLayout) (c j : ℕ) (bytes : List ℕ) (is : IsApart layout)
+    (out : IsOutsideTable layout c)
     (on : c < layout.clusters) (lt : j < layout.cluster_sectors) (w : WritesOne told old new (c * layout.cluster_sectors + j) bytes) where
   of_c : (c * layout.cluster_sectors + j) / layout.cluster_sectors ≡ c
   of_c = div-mul-add c layout.cluster_sectors j lt

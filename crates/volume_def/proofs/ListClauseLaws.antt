@@ -47,7 +47,8 @@ HasList-edit old new n f was now entries next e file plain plain' r h =
     }
 
 -- the list itself is replaced by another
-pub HasList-rewrite : (old new : Records) (f : ℕ) (was now : Part) (entries : List ListEntry) → (e : EditsAt old new f (was ∷ []) (now ∷ []))
+pub HasList-rewrite : (old new : Records) (f : ℕ) (was now : Part) (entries : List ListEntry)
+    → (e : EditsAt old new f (was ∷ []) (now ∷ []))
     → file_of f e.was_record ≡ f → is_list was ≡ true → is_list now ≡ true → now.holder ≡ f → HasList old f entries → HasList new f entries
 HasList-rewrite old new f was now entries e file was_is now_is holder h =
     let replaced = parts-own_at old new f f (was ∷ []) (now ∷ []) e file in
@@ -67,11 +68,17 @@ HasList-rewrite old new f was now entries e file was_is now_is holder h =
           ]);
       names = subst (λ g. SameItems (entries_in old (parts old g)) entries → SameItems (entries_in new (parts new g)) entries) file
           (λ before. entries-own old new f (was ∷ []) (now ∷ []) entries entries e before
-          (record { before = []; after = entries; old_is = ap (λ xs. xs ++ entries) (sym (none was was_is)); new_is = ap (λ xs. xs ++ entries) (sym (none now now_is)) })) h.names;
+          (record {
+            before = [];
+            after = entries;
+            old_is = ap (λ xs. xs ++ entries) (sym (none was was_is));
+            new_is = ap (λ xs. xs ++ entries) (sym (none now now_is));
+          })) h.names;
     }
 
 -- a part that is no list goes from one record of the file to another, and its entry with it
-pub HasList-move : (old new : Records) (from to f : ℕ) (was now : Part) (entries next : List ListEntry) → (m : MovesPart old new from to was now)
+pub HasList-move : (old new : Records) (from to f : ℕ) (was now : Part) (entries next : List ListEntry)
+    → (m : MovesPart old new from to was now)
     → file_of from m.leaves.was_record ≡ f → is_list was ≡ false
     → Replaces entries next (entry_in old was ∷ []) (entry_in old now ∷ []) → HasList old f entries → HasList new f next
 HasList-move old new from to f was now entries next m file plain r h =

@@ -1,5 +1,6 @@
 -- A change of sectors that no clause looks at changes no answer.
-use Rattle.std.proofs.Common.{◌≡◌, ◌<◌, ◌≤◌, ◌+◌, ◌*◌, ◌/◌, ℕ, zero, suc, true, List, [], ◌∷◌, length, refl, sym, ap, subst, inl, inr, ◌∙◌, mul-zero, arith}
+use Rattle.std.proofs.Common.{◌≡◌, ◌<◌, ◌≤◌, ◌+◌, ◌*◌, ◌/◌, ℕ, zero, suc, true, List, [], ◌∷◌, length, refl, sym, ap, subst, inl, inr}
+use Rattle.std.proofs.Common.{◌∙◌, mul-zero, arith}
 use Rattle.std.specs.Prelude.{◌↔◌, IsSome, IsTrue, codes, slice_range}
 use Rattle.std.proofs.Math.Path.{fun_ext}
 use Rattle.std.proofs.lemmas.Bool.{and_parts, eqb-true}
@@ -20,12 +21,14 @@ use Rattle.volume_def.specs.BitmapClauses.{MeetsClusterBits, MeetsRecordBits}
 use Rattle.volume_def.specs.Blocks.{block_of, cluster_of, copy_of}
 use Rattle.volume_def.specs.CaseClause.{MeetsCaseTable, case_parts}
 use Rattle.volume_def.specs.Files.{Part, is_base, parts, parts_at, record_on, records_of}
-use Rattle.volume_def.specs.IndexesClause.{HasIndex, IndexParts, IsDirectoryIndex, IsIndexRecordAt, KeyRule, MeetsIndexes, MeetsViewIndex, hash_rule, id_rule, index_nodes, index_parts, word_rule}
+use Rattle.volume_def.specs.IndexesClause.{HasIndex, IndexParts, IsDirectoryIndex, IsIndexRecordAt, KeyRule, MeetsIndexes, MeetsViewIndex}
+use Rattle.volume_def.specs.IndexesClause.{hash_rule, id_rule, index_nodes, index_parts, word_rule}
 use Rattle.volume_def.specs.KeptList.{KeepsList}
 use Rattle.volume_def.specs.ListsClause.{HasRightList, MeetsLists, is_list}
 use Rattle.volume_def.specs.Looked.{AgreeWhereLooked, IsLookedAt, IsLookedAtSector, IsLookedInto, with_clusters}
-use Rattle.volume_def.specs.Sound.{Attributes, CaseTable, Clause, ClusterBits, Extents, Indexes, Limits, Links, Lists, Mirror, MirrorPlace, Owners, RecordBits, References, Shape, Version}
-use Rattle.volume_def.specs.Sound.{FirstBroken, HasLayout, IsAccepted, IsRefused, Meets, told_view}
+use Rattle.volume_def.specs.Sound.{Attributes, CaseTable, Clause, ClusterBits, Extents, Indexes, Limits, Links, Lists, Mirror, MirrorPlace}
+use Rattle.volume_def.specs.Sound.{Owners, RecordBits, References, Shape, Version, FirstBroken, HasLayout, IsAccepted}
+use Rattle.volume_def.specs.Sound.{IsRefused, Meets, told_view}
 use Rattle.volume_def.specs.OwnersClause.{times_owned}
 use Rattle.volume_def.specs.Table.{IsRecord, MeetsTable, TableLayout, TellsTable, cluster_bytes, first_record}
 use Rattle.volume_def.specs.Values.{KeepsClusters, value_of_parts}
@@ -80,7 +83,8 @@ module _ (view : VolumeView) (copy cluster rest : ℕ → List ℕ)
       let all = parts (records_of view) f in
       let kept : KeepsList view other all =
       All-from_Contains (λ part. IsTrue (is_list part) → KeepsClusters view other (part ∷ [])) all (list-looked f) in
-      IfSome-weaker (λ r. IsTrue (is_base r) → HasRightList view f all) (λ r. IsTrue (is_base r) → HasRightList other f all) (record_on view f)
+      IfSome-weaker (λ r. IsTrue (is_base r) → HasRightList view f all)
+      (λ r. IsTrue (is_base r) → HasRightList other f all) (record_on view f)
       (λ r h base. HasRightList-kept view other f all refl kept refl (λ alone. alone) (h base)) meets
 
   pub cluster_bits-kept : (n : ℕ) → MeetsClusterBits view n → MeetsClusterBits other n

@@ -64,12 +64,14 @@ pub HasRightList-kept : (old new : VolumeView) (f : ℕ) (all : List Part) → n
 HasRightList-kept old new f all layout kept entries alone h = record {
   few = h.few;
   each = All-from_Contains (λ part. IsTrue (is_list part) → IsRightList new f all part) all (λ part c t.
-      list-kept old new f all part layout (All-contains (λ part. IsTrue (is_list part) → KeepsClusters old new (part ∷ [])) all part kept c t) entries
+      list-kept old new f all part layout
+      (All-contains (λ part. IsTrue (is_list part) → KeepsClusters old new (part ∷ [])) all part kept c t) entries
       (All-contains (λ part. IsTrue (is_list part) → IsRightList old f all part) all part h.each c t));
   alone = λ none. alone (h.alone none);
 }
 
-same_if : (n f : ℕ) (was now : Option Record) → now ≡ was → IfSome was (λ r. file_of n r ≡ f → n ≡ f) → IfSome now (λ r. file_of n r ≡ f → n ≡ f)
+same_if : (n f : ℕ) (was now : Option Record) → now ≡ was → IfSome was (λ r. file_of n r ≡ f → n ≡ f)
+    → IfSome now (λ r. file_of n r ≡ f → n ≡ f)
 same_if n f was now e p = subst (λ o. IfSome o (λ r. file_of n r ≡ f → n ≡ f)) (sym e) p
 
 -- No record of a file but its own: over records, as a move has some between two volumes.
@@ -134,7 +136,8 @@ pub HasRightList-taken : (old new : VolumeView) (n f : ℕ) → (t : TakesEmpty 
 HasRightList-taken old new n f t other layout kept h =
     let all = parts (records_of old) f in
     let same = parts-taken (records_of old) (records_of new) n f t in
-    let entries = ap (entries_in (records_of new)) (sym same) ∙ entries-taken (records_of old) (records_of new) n f (NameHolders-view old) t in
+    let entries = ap (entries_in (records_of new)) (sym same)
+    ∙ entries-taken (records_of old) (records_of new) n f (NameHolders-view old) t in
     subst (HasRightList new f) (sym same)
     (HasRightList-kept old new f all layout kept entries (alone-taken (records_of old) (records_of new) n f t other) h)
 
@@ -144,6 +147,7 @@ pub HasRightList-freed : (old new : VolumeView) (n f : ℕ) → FreesEmpty (reco
 HasRightList-freed old new n f t layout kept h =
     let all = parts (records_of old) f in
     let same = parts-freed (records_of old) (records_of new) n f t in
-    let entries = ap (entries_in (records_of new)) (sym same) ∙ entries-freed (records_of old) (records_of new) n f (NameHolders-view old) t in
+    let entries = ap (entries_in (records_of new)) (sym same)
+    ∙ entries-freed (records_of old) (records_of new) n f (NameHolders-view old) t in
     subst (HasRightList new f) (sym same)
     (HasRightList-kept old new f all layout kept entries (alone-freed (records_of old) (records_of new) n f t) h)

@@ -10,7 +10,8 @@ use Rattle.ntfs_def.specs.Attribute.{attributes}
 use Rattle.ntfs_def.specs.Fixup.{opened_of}
 use Rattle.ntfs_def.specs.Record.{is_in_use}
 use Rattle.volume_def.specs.Members.{HoldsPart, IsPart, NameHolders}
-use Rattle.volume_def.specs.Files.{Part, Record, Records, file_of, is_of, part_of, parts, parts_in, record_in, record_of, record_on, records_of}
+use Rattle.volume_def.specs.Files.{Part, Record, Records, file_of, is_of, part_of, parts, parts_in, record_in}
+use Rattle.volume_def.specs.Files.{record_of, record_on, records_of}
 use Rattle.volume_def.specs.View.{VolumeView}
 use Rattle.list_laws.proofs.MemberLaws.{Contains-flat_map, Contains-from_flat_map, Contains-from_range, Contains-nil, Contains-range}
 use Rattle.volume_def.proofs.RecordLaws.{parts_in-other, parts_in-own}
@@ -47,7 +48,8 @@ pub IsPart-Contains : (records : Records) (f : ℕ) (part : Part) → NameHolder
     → IsPart records f part
 IsPart-Contains records f part own h =
     let w = HoldsPart-Contains records f part h in
-    let e : part.holder ≡ w.0 = All-contains (λ (p : Part). p.holder ≡ w.0) w.1.record_there.parts part (own w.0 w.1.record_there w.1.held) w.1.among in
+    let e : part.holder ≡ w.0 =
+    All-contains (λ (p : Part). p.holder ≡ w.0) w.1.record_there.parts part (own w.0 w.1.record_there w.1.held) w.1.among in
     subst (λ n. HoldsPart records f n part) (sym e) w.1
 
 -- The records of a volume.
@@ -55,7 +57,8 @@ IsPart-Contains records f part own h =
 made_of : (n : ℕ) (stored : List ℕ) (r : Record) → record_in n stored ≡ Some r → record_of n (opened_of stored) ≡ r
 unfolding record_in
 made_of n stored r e = elim (cases_Bool (is_in_use stored)) [
-  | inl t ↦ let s : Some (record_of n (opened_of stored)) ≡ Some r = sym (ap (λ b. cond b (Some (record_of n (opened_of stored))) None) t) ∙ e in cc
+  | inl t ↦ let s : Some (record_of n (opened_of stored)) ≡ Some r =
+      sym (ap (λ b. cond b (Some (record_of n (opened_of stored))) None) t) ∙ e in cc
   | inr f ↦ let s : None ≡ Some r = sym (ap (λ b. cond b (Some (record_of n (opened_of stored))) None) f) ∙ e in cc
 ]
 

@@ -14,7 +14,8 @@ use Rattle.volume_def.specs.View.{VolumeView}
 use Rattle.volume_def.proofs.PartLaws.{IsPart-Contains, NameHolders-view}
 
 -- what is claimed of a base record, of a record that is one
-pub of_base : (P : Type 0) (found : Option Record) → IsSomeAnd found (λ r. IsTrue (is_base r)) → IfSome found (λ r. IsTrue (is_base r) → P) → P
+pub of_base : (P : Type 0) (found : Option Record) → IsSomeAnd found (λ r. IsTrue (is_base r))
+    → IfSome found (λ r. IsTrue (is_base r) → P) → P
 of_base P None is claim = absurd is
 of_base P (Some r) is claim = claim is
 

@@ -1,5 +1,6 @@
 -- The parts of a file after one record was changed.
-use Rattle.std.proofs.Common.{◌≡◌, ◌≢◌, ◌<◌, ℕ, List, [], ◌∷◌, map, Option, Some, None, unwrap_or, inl, inr, refl, sym, ap, subst, ◌∙◌, arith}
+use Rattle.std.proofs.Common.{◌≡◌, ◌≢◌, ◌<◌, ℕ, List, [], ◌∷◌, map, Option, Some, None, unwrap_or, inl, inr, refl, sym, ap}
+use Rattle.std.proofs.Common.{subst, ◌∙◌, arith}
 use Rattle.std.proofs.lemmas.Bool.{cases_eq, cond-false, cond-true, eq-eqb, ne_eqb}
 use Rattle.std.specs.List.{flat_map, range_with_len}
 use Rattle.std.specs.Option.{option_map}
@@ -18,7 +19,8 @@ unfolding parts
 parts-Replaces old new n f c h =
     let was : ℕ → List Part = λ m. parts_in (old.record_at m) m f in
     let now : ℕ → List Part = λ m. parts_in (new.record_at m) m f in
-    subst (λ count. Replaces (flat_map was (range_with_len 0 old.count)) (flat_map now (range_with_len 0 count)) (was n) (now n)) (sym c.count)
+    subst (λ count. Replaces (flat_map was (range_with_len 0 old.count)) (flat_map now (range_with_len 0 count)) (was n) (now n))
+    (sym c.count)
     (Replaces-range was now 0 old.count n (omega arith) (omega arith) (λ m ne. ap (λ r. parts_in r m f) (c.others m ne)))
 
 -- what a record holds of its file, and of others

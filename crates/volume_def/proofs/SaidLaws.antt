@@ -1,5 +1,6 @@
 -- What parts say decides whether they are a stream, where its clusters lie, and its value: not where they stand, nor their ids.
-use Rattle.std.proofs.Common.{◌≡◌, ◌≤◌, ◌+◌, ◌*◌, ℕ, All, List, [], ◌∷◌, length, map, Option, Some, None, unwrap_or, refl, sym, ap, subst, inl, inr, ◌∙◌, arith}
+use Rattle.std.proofs.Common.{◌≡◌, ◌≤◌, ◌+◌, ◌*◌, ℕ, All, List, [], ◌∷◌, length, map, Option, Some, None, unwrap_or, refl, sym, ap, subst}
+use Rattle.std.proofs.Common.{inl, inr, ◌∙◌, arith}
 use Rattle.std.specs.Prelude.{IfSome, IsSome, IsSomeAnd, IsTrue}
 use Rattle.std.specs.Option.{option_map}
 use Rattle.std.proofs.lemmas.List.{length-map}
@@ -50,7 +51,8 @@ follow-said vcn (x ∷ xs) [] e f = tt
 follow-said vcn (x ∷ xs) (y ∷ ys) e (begins, rest) =
     let same = alike-head x y xs ys e in (
       begins-said vcn x y same begins,
-      subst (λ n. FollowFrom (vcn + n) ys) (sym (covered-said x y same)) (follow-said (vcn + part_clusters x) xs ys (alike-tail x y xs ys e) rest),
+      subst (λ n. FollowFrom (vcn + n) ys) (sym (covered-said x y same))
+          (follow-said (vcn + part_clusters x) xs ys (alike-tail x y xs ys e) rest),
     )
 
 whole-said : (xs ys : List Part) → SayAlike xs ys → AreWhole xs → AreWhole ys
@@ -64,7 +66,8 @@ whole-said (x ∷ []) (y ∷ next ∷ ys) e w = let f = alike-tail x y [] (next 
 whole-said (x ∷ next ∷ xs) (y ∷ []) e w = let f = alike-tail x y (next ∷ xs) [] e in cc
 whole-said (x ∷ a ∷ xs) (y ∷ b ∷ ys) e w = follow-said 0 (x ∷ a ∷ xs) (y ∷ b ∷ ys) e w
 
-All-said : (P : Part → Type 0) → ((x y : Part) → said_by y ≡ said_by x → P x → P y) → (xs ys : List Part) → SayAlike xs ys → All P xs → All P ys
+All-said : (P : Part → Type 0) → ((x y : Part) → said_by y ≡ said_by x → P x → P y) → (xs ys : List Part)
+    → SayAlike xs ys → All P xs → All P ys
 All-said P moves [] [] e all = All-nil P
 All-said P moves [] (y ∷ ys) e all = cc
 All-said P moves (x ∷ xs) [] e all = All-nil P
@@ -96,7 +99,8 @@ unfolding part_saying
 tells-said bytes f x y e tells = subst (λ s. Tells bytes f (part_saying s)) (sym e) tells
 
 -- Parts that say the same in any order are a stream alike.
-pub AreStream-said : (size f : ℕ) (xs ys : List Part) → SameItems (map said_by xs) (map said_by ys) → AreAttribute size f xs → AreAttribute size f ys
+pub AreStream-said : (size f : ℕ) (xs ys : List Part) → SameItems (map said_by xs) (map said_by ys)
+    → AreAttribute size f xs → AreAttribute size f ys
 AreStream-said size f xs ys h s =
     let ordered : SameItems (map said_by ys) (map said_by s.ordered) =
     SameItems-trans _ _ _ (SameItems-sym _ _ h) (SameItems-map said_by xs s.ordered s.order) in
@@ -109,7 +113,8 @@ AreStream-said size f xs ys h s =
       ordered = other;
       order = found.2;
       whole = whole-said s.ordered other alike s.whole;
-      several = λ more. All-said (λ part. 1 ≤ part_clusters part) (λ x y e some. let c = covered-said x y e in omega arith) s.ordered other alike
+      several = λ more. All-said (λ part. 1 ≤ part_clusters part)
+          (λ x y e some. let c = covered-said x y e in omega arith) s.ordered other alike
           (s.several (omega arith));
       sizes = subst (λ n. All (Tells (n * size) f) other) (sym has_cluster)
           (All-said (Tells (all_covered s.ordered * size) f) (tells-said (all_covered s.ordered * size) f) s.ordered other alike s.sizes);
@@ -165,7 +170,8 @@ value-bare cluster size xs =
     ∙ value_over-bare cluster size (map bare xs) (find is_first xs)
     ∙ over-spots cluster size xs (map bare xs) (find is_first xs) (spot_at-bare xs)
 
-pub value-said : (cluster : ℕ → List ℕ) (size f : ℕ) (xs ys : List Part) → SameItems (map said_by xs) (map said_by ys) → AreAttribute size f xs
+pub value-said : (cluster : ℕ → List ℕ) (size f : ℕ) (xs ys : List Part)
+    → SameItems (map said_by xs) (map said_by ys) → AreAttribute size f xs
     → value_of_parts cluster size ys ≡ value_of_parts cluster size xs
 value-said cluster size f xs ys h s =
     sym (value-bare cluster size ys)

@@ -3,7 +3,8 @@ use Rattle.std.proofs.Common.{◌≡◌, ◌<◌, ℕ, List, [], ◌∷◌, Some
 use Rattle.std.proofs.lemmas.Bool.{cases_order}
 use Rattle.std.proofs.lemmas.Option.{none-some}
 use Rattle.ntfs_def.specs.Boot.{boot_failing}
-use Rattle.volume_def.specs.Sound.{Attributes, CaseTable, Clause, ClusterBits, Extents, Indexes, Limits, Links, Lists, Mirror, MirrorPlace, Owners, RecordBits, References, Shape, Version}
+use Rattle.volume_def.specs.Sound.{Attributes, CaseTable, Clause, ClusterBits, Extents, Indexes, Limits, Links, Lists, Mirror, MirrorPlace}
+use Rattle.volume_def.specs.Sound.{Owners, RecordBits, References, Shape, Version}
 use Rattle.volume_def.specs.Readable.{IsReadableVolume}
 use Rattle.volume_def.specs.Sound.{FailsLater, FirstBroken, IsAccepted, IsRefused, IsSound, Meets, clause_number, rank_of, told_view}
 use Rattle.volume_def.specs.Table.{TableLayout}

@@ -1,5 +1,6 @@
 -- The extent that is found by the numbers of its header is the one that holds the cluster.
-use Rattle.std.proofs.Common.{◌≡◌, ◌⊎◌, ◌<◌, ◌≤◌, ◌+◌, ◌-◌, ◌^◌, ◌&&◌, ℕ, cond, leb, ltb, All, List, [], ◌∷◌, length, Option, Some, None, unwrap_or, refl, sym, ap, subst, inl, inr, ◌∙◌, arith}
+use Rattle.std.proofs.Common.{◌≡◌, ◌⊎◌, ◌<◌, ◌≤◌, ◌+◌, ◌-◌, ◌^◌, ◌&&◌, ℕ, cond, leb, ltb, All, List, [], ◌∷◌, length, Option, Some, None}
+use Rattle.std.proofs.Common.{unwrap_or, refl, sym, ap, subst, inl, inr, ◌∙◌, arith}
 use Rattle.std.specs.Prelude.{IsSome, IsSomeAnd}
 use Rattle.std.proofs.lemmas.Bool.{cases_eq, cases_lt, le-leb, le-ltb, lt-leb, lt-ltb, ne_eqb}
 use Rattle.std.proofs.lemmas.List.Elements.{All-cons, All-contains, All-nil}
@@ -107,7 +108,8 @@ pub spot-spans : (size f : ℕ) (extents : List Part) (vcn : ℕ) → AreAttribu
     → spot_by (find (spans_vcn vcn) extents) vcn ≡ spot_at extents vcn
 spot-spans size f extents vcn s = elim (cases_covered s.ordered s.several) [
   | inl all ↦
-      let each = SameItems-All part_code (λ (p : Part). 1 ≤ part_clusters p) s.ordered extents (SameItems-sym extents s.ordered s.order) all in
+      let each = SameItems-All part_code (λ (p : Part). 1 ≤ part_clusters p) s.ordered extents
+      (SameItems-sym extents s.ordered s.order) all in
       ap (λ o. spot_by o vcn) (find-spans size f extents vcn s each)
   | inr (only, is, nothing) ↦
       let none : (part : Part) → Contains extents part → part_clusters part ≡ 0 = λ part c.

@@ -1,5 +1,6 @@
 -- The bytes of streams and of values, range by range.
-use Rattle.std.proofs.Common.{◌≡◌, ◌<◌, ◌≤◌, ◌+◌, ◌-◌, ◌*◌, ◌/◌, ◌%◌, ℕ, true, cond, List, ◌++◌, length, map, replicate, Some, ap, ◌∙◌, arith}
+use Rattle.std.proofs.Common.{◌≡◌, ◌<◌, ◌≤◌, ◌+◌, ◌-◌, ◌*◌, ◌/◌, ◌%◌, ℕ, true, cond, List, ◌++◌, length, map, replicate, Some}
+use Rattle.std.proofs.Common.{ap, ◌∙◌, arith}
 use Rattle.std.specs.Prelude.{slice_range}
 use Rattle.std.proofs.lemmas.Bool.{eq-eqb, le-ltb, lt-ltb}
 use Rattle.std.proofs.lemmas.List.{map-append}
@@ -13,7 +14,8 @@ use Rattle.ntfs_def.specs.Runs.{spot_of}
 use Rattle.volume_def.specs.ExtentsClause.{AreAttribute}
 use Rattle.volume_def.specs.Files.{Clusters, Content, Part, Value, part_clusters, content_extent, part_runs}
 use Rattle.volume_def.specs.StreamSize.{IsFirstExtent}
-use Rattle.volume_def.specs.Values.{byte_there, first_vcn_of, holds_vcn, is_first, spot_at, stored_byte, stored_bytes, value_by, value_byte, value_of_parts, value_over}
+use Rattle.volume_def.specs.Values.{byte_there, first_vcn_of, holds_vcn, is_first, spot_at, stored_byte, stored_bytes, value_by}
+use Rattle.volume_def.specs.Values.{value_byte, value_of_parts, value_over}
 use Rattle.volume_def.proofs.ExtentLaws.{holds-here, spot_at-part, stream-first}
 use Rattle.list_laws.proofs.FindLaws.{find-one}
 use Rattle.list_laws.proofs.MemberLaws.{Contains-from_range, map_agree}
@@ -27,7 +29,8 @@ unfolding stored_bytes
 length-stored_bytes cluster size spot at len = length-map-range_with_len (stored_byte cluster size spot) at len
 
 pub stored_bytes-split : (cluster : ℕ → List ℕ) (size : ℕ) (spot : ℕ → Spot) (at len more : ℕ)
-    → stored_bytes cluster size spot at (len + more) ≡ stored_bytes cluster size spot at len ++ stored_bytes cluster size spot (at + len) more
+    → stored_bytes cluster size spot at (len + more)
+    ≡ stored_bytes cluster size spot at len ++ stored_bytes cluster size spot (at + len) more
 unfolding stored_bytes
 stored_bytes-split cluster size spot at len more =
     ap (map (stored_byte cluster size spot)) (range-append at len more)
@@ -67,21 +70,25 @@ unfolding stored_bytes
 stored_bytes-extent cluster size f extents part at len s c some low high =
     map_ranges (stored_byte cluster size (spot_at extents)) (stored_byte cluster size (spot_of (part_runs part))) at
     (at - first_vcn_of part.content * size) len
-    (λ j lt. extent-byte cluster size f extents part (at + j) (at - first_vcn_of part.content * size + j) s c some (omega arith) (omega arith))
+    (λ j lt. extent-byte cluster size f extents part (at + j) (at - first_vcn_of part.content * size + j) s c some
+    (omega arith) (omega arith))
 
 -- Of a value.
 
 -- what an attribute in clusters says, by its first part
-by-first : (cluster : ℕ → List ℕ) (size : ℕ) (extents : List Part) (extent : ExtentHeader) (content : Content) → content_extent content ≡ Some extent
+by-first : (cluster : ℕ → List ℕ) (size : ℕ) (extents : List Part) (extent : ExtentHeader) (content : Content)
+    → content_extent content ≡ Some extent
     → value_by cluster size extents content
     ≡ map (value_byte cluster size (spot_at extents) extent.sizes.initialized) (range_with_len 0 extent.sizes.real)
 by-first cluster size extents extent (Value value) told = cc
 by-first cluster size extents extent (Clusters other runs) told =
     let same : other ≡ extent = cc in
-    let rule : ExtentHeader → List ℕ = λ e. map (value_byte cluster size (spot_at extents) e.sizes.initialized) (range_with_len 0 e.sizes.real) in
+    let rule : ExtentHeader → List ℕ =
+    λ e. map (value_byte cluster size (spot_at extents) e.sizes.initialized) (range_with_len 0 e.sizes.real) in
     ap rule same
 
-first_vcn-told : (extent : ExtentHeader) (content : Content) → content_extent content ≡ Some extent → first_vcn_of content ≡ extent.sizes.first
+first_vcn-told : (extent : ExtentHeader) (content : Content) → content_extent content ≡ Some extent
+    → first_vcn_of content ≡ extent.sizes.first
 first_vcn-told extent (Value value) told = cc
 first_vcn-told extent (Clusters other runs) told = let same : other ≡ extent = cc in ap (λ (e : ExtentHeader). e.sizes.first) same
 

@@ -10,7 +10,8 @@ use Rattle.volume_def.specs.Files.{Clusters, Content, Part, Value, part_runs}
 use Rattle.volume_def.specs.Coverage.{times_covered}
 use Rattle.list_laws.specs.SameItems.{SameItems}
 use Rattle.volume_def.specs.StreamSize.{real_size, told_size}
-use Rattle.volume_def.specs.Values.{byte_there, first_vcn_of, holds_vcn, is_first, spot_at, spot_by, value_by, value_byte, value_of_parts, value_over}
+use Rattle.volume_def.specs.Values.{byte_there, first_vcn_of, holds_vcn, is_first, spot_at, spot_by, value_by}
+use Rattle.volume_def.specs.Values.{value_byte, value_of_parts, value_over}
 use Rattle.volume_def.proofs.Codes.{part_code}
 use Rattle.list_laws.proofs.CodedLaws.{find-SameItems}
 use Rattle.volume_def.proofs.ExtentLaws.{spot_at-SameItems, stream-first, stream-holds}

@@ -1,6 +1,7 @@
 -- The clause on the attributes of a record, S4, by the number of a record.
 -- Layout: Linux-NTFS documentation, "Attributes"; Carrier, File System Forensic Analysis, chapters 11 and 13.
-use Rattle.std.specs.Prelude.{◌≡◌, ◌⊎◌, ℕ, ◌<◌, ◌≤◌, ◌==◌, ◌||◌, Bool, List, [], ◌∷◌, length, All, count_by, IfSome, IsSome, IsSomeAnd, IsTrue}
+use Rattle.std.specs.Prelude.{◌≡◌, ◌⊎◌, ℕ, ◌<◌, ◌≤◌, ◌==◌, ◌||◌, Bool, List, [], ◌∷◌, length, All, count_by, IfSome}
+use Rattle.std.specs.Prelude.{IsSome, IsSomeAnd, IsTrue}
 use Rattle.ntfs_def.specs.declared.kinds.TheConstants.{FILE_NAME, INDEX_ROOT, STANDARD_INFORMATION, VOLUME_INFORMATION}
 use Rattle.ntfs_def.specs.declared.records.TheConstants.{SYSTEM_END}
 use Rattle.ntfs_def.specs.FileName.{is_name_key}

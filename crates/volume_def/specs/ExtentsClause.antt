@@ -1,12 +1,14 @@
 -- The clause on extents, S6, by the number of a base record.
 -- Layout: Linux-NTFS documentation, "Attribute Headers"; Carrier, File System Forensic Analysis, chapters 11 and 13.
-use Rattle.std.specs.Prelude.{◌≡◌, ◌≢◌, ◌⊎◌, ℕ, ◌+◌, ◌-◌, ◌*◌, ◌^◌, ◌<◌, ◌≤◌, ◌==◌, ◌&&◌, ◌||◌, not, Bool, List, [], ◌∷◌, codes, length, All, IfSome, IsSome, IsSomeAnd, IsTrue, if◌then◌else◌}
+use Rattle.std.specs.Prelude.{◌≡◌, ◌≢◌, ◌⊎◌, ℕ, ◌+◌, ◌-◌, ◌*◌, ◌^◌, ◌<◌, ◌≤◌, ◌==◌, ◌&&◌, ◌||◌, not, Bool, List, [], ◌∷◌, codes, length}
+use Rattle.std.specs.Prelude.{All, IfSome, IsSome, IsSomeAnd, IsTrue, if◌then◌else◌}
 use Rattle.ntfs_def.specs.declared.kinds.TheConstants.{DATA, FILE_NAME}
 use Rattle.ntfs_def.specs.declared.records.TheConstants.{BAD_CLUSTERS}
 use Rattle.ntfs_def.specs.declared.sizes.Sizes.{Sizes}
 use Rattle.ntfs_def.specs.Units.{wide}
 use Rattle.ntfs_def.specs.Flags.{is_packed, is_sparse}
-use Rattle.volume_def.specs.Files.{Part, Records, part_clusters, content_extent, is_base, is_of, parts, parts_like, content_runs, content_value, all_covered}
+use Rattle.volume_def.specs.Files.{Part, Records, part_clusters, content_extent, is_base, is_of, parts, parts_like}
+use Rattle.volume_def.specs.Files.{content_runs, content_value, all_covered}
 use Rattle.list_laws.specs.SameItems.{SameItems}
 
 -- the number of the last of n clusters; 2^64 - 1 where there is none

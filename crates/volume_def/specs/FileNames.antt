@@ -29,7 +29,8 @@ is_not_dos name = not (is_dos name)
 abbrev pub links_of_file : Records → ℕ → Option Record → List Link
 links_of_file records f None = []
 links_of_file records f (Some r) =
-    if is_base r then map (λ name. record { file = record { number = f; sequence = r.header.sequence }; name = name }) (names_of records f) else []
+    if is_base r then map (λ name. record { file = record { number = f; sequence = r.header.sequence }; name = name }) (names_of records f)
+    else []
 
 -- all names of all files
 unfoldable pub links : Records → List Link

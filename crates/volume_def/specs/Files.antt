@@ -1,7 +1,8 @@
 -- Files: what the records of the table mean, and the parts of a file, which may stand in several of them.
 -- Layout: Linux-NTFS documentation, "File Record" and "File Reference"; Carrier, File System Forensic Analysis,
 -- chapters 11 and 13.
-use Rattle.std.specs.Prelude.{◌%◌, ◌/◌, ℕ, ◌==◌, ◌&&◌, nat_lt, Bool, List, [], map, filter, Option, Some, None, is_none, option_map, unwrap_or, if◌then◌else◌, sum_by}
+use Rattle.std.specs.Prelude.{◌%◌, ◌/◌, ℕ, ◌==◌, ◌&&◌, nat_lt, Bool, List, [], map, filter, Option, Some, None, is_none, option_map}
+use Rattle.std.specs.Prelude.{unwrap_or, if◌then◌else◌, sum_by}
 use Rattle.std.specs.List.{flat_map, range_with_len}
 use Rattle.std.specs.Str.{bytes_eq}
 use Rattle.ntfs_def.specs.declared.run_text.Run.{Run}

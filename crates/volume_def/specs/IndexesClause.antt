@@ -1,7 +1,8 @@
 -- The clause on indexes, S12, by the number of the record that holds the index.
 -- Layout: Linux-NTFS documentation, attributes $INDEX_ROOT, $INDEX_ALLOCATION and $BITMAP, files $Secure, $ObjId and $Reparse;
 -- Carrier, File System Forensic Analysis, chapters 11 to 13.
-use Rattle.std.specs.Prelude.{◌≡◌, ◌≢◌, ℕ, ◌+◌, ◌*◌, ◌/◌, ◌%◌, ◌<◌, ◌≤◌, ◌==◌, ◌&&◌, Bool, List, [], ◌∷◌, codes, map, filter, length, slice_range, All, count_by, Some, IfSome, IsTrue}
+use Rattle.std.specs.Prelude.{◌≡◌, ◌≢◌, ℕ, ◌+◌, ◌*◌, ◌/◌, ◌%◌, ◌<◌, ◌≤◌, ◌==◌, ◌&&◌, Bool, List, [], ◌∷◌, codes, map, filter, length}
+use Rattle.std.specs.Prelude.{slice_range, All, count_by, Some, IfSome, IsTrue}
 use Rattle.std.specs.Str.{bytes_eq}
 use Rattle.std.specs.declared.cmp.Ordering.{Ordering}
 use Rattle.ntfs_def.specs.declared.index.NodeForm.{NodeForm}

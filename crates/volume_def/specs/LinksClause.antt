@@ -1,6 +1,7 @@
 -- The clause on links, S11, by the number of a base record: how files are named, and directories lead to the root.
 -- Layout: Linux-NTFS documentation, attribute $FILE_NAME; Carrier, File System Forensic Analysis, chapters 11 and 12.
-use Rattle.std.specs.Prelude.{◌≡◌, ◌≢◌, ℕ, zero, suc, ◌≤◌, ◌==◌, ◌&&◌, Bool, List, length, find, All, count_by, Option, Some, option_map, option_and_then, IfSome, IsSomeAnd, IsTrue}
+use Rattle.std.specs.Prelude.{◌≡◌, ◌≢◌, ℕ, zero, suc, ◌≤◌, ◌==◌, ◌&&◌, Bool, List, length, find, All, count_by, Option, Some, option_map}
+use Rattle.std.specs.Prelude.{option_and_then, IfSome, IsSomeAnd, IsTrue}
 use Rattle.ntfs_def.specs.declared.records.TheConstants.{FIRST_ORDINARY, ROOT}
 use Rattle.ntfs_def.specs.FileName.{FileName}
 use Rattle.volume_def.specs.FileNames.{is_dos, is_not_dos, names_of}

@@ -1,11 +1,13 @@
 -- The clause on attribute lists, S5, by the number of a base record.
 -- Layout: Linux-NTFS documentation, attribute $ATTRIBUTE_LIST; Carrier, File System Forensic Analysis, chapter 13.
-use Rattle.std.specs.Prelude.{◌≡◌, ℕ, ◌*◌, ◌≤◌, ◌==◌, not, Bool, false, List, [], ◌∷◌, map, filter, length, All, count_by, Option, Some, None, IfSome, IsSome, IsTrue}
+use Rattle.std.specs.Prelude.{◌≡◌, ℕ, ◌*◌, ◌≤◌, ◌==◌, not, Bool, false, List, [], ◌∷◌, map, filter, length, All, count_by, Option, Some}
+use Rattle.std.specs.Prelude.{None, IfSome, IsSome, IsTrue}
 use Rattle.ntfs_def.specs.declared.kinds.TheConstants.{ATTRIBUTE_LIST}
 use Rattle.ntfs_def.specs.Attribute.{ExtentHeader}
 use Rattle.ntfs_def.specs.AttributeList.{HasListShape, ListEntry, list_entries}
 use Rattle.ntfs_def.specs.Flags.{is_packed}
-use Rattle.volume_def.specs.Files.{Part, Record, Records, content_extent, content_runs, file_of, is_base, part_clusters, part_runs, parts, record_on, records_of}
+use Rattle.volume_def.specs.Files.{Part, Record, Records, content_extent, content_runs, file_of, is_base, part_clusters, part_runs}
+use Rattle.volume_def.specs.Files.{parts, record_on, records_of}
 use Rattle.list_laws.specs.SameItems.{SameItems}
 use Rattle.volume_def.specs.Values.{first_vcn_of, value_on}
 use Rattle.volume_def.specs.Table.{IsOnVolume, cluster_bytes}

@@ -1,6 +1,7 @@
 -- Streams: what an attribute holds, over all its parts and byte by byte.
 -- Layout: Linux-NTFS documentation, "Attribute Headers"; Carrier, File System Forensic Analysis, chapter 11.
-use Rattle.std.specs.Prelude.{◌≡◌, ℕ, ◌+◌, ◌-◌, ◌/◌, ◌%◌, ◌==◌, ◌&&◌, nat_lt, nat_le, Bool, List, [], find, map, slice_index, Option, Some, None, if◌then◌else◌, unwrap_or, IsSomeAnd, false, IfSome}
+use Rattle.std.specs.Prelude.{◌≡◌, ℕ, ◌+◌, ◌-◌, ◌/◌, ◌%◌, ◌==◌, ◌&&◌, nat_lt, nat_le, Bool, List, [], find, map, slice_index, Option, Some}
+use Rattle.std.specs.Prelude.{None, if◌then◌else◌, unwrap_or, IsSomeAnd, false, IfSome}
 use Rattle.std.specs.List.{range_with_len}
 use Rattle.ntfs_def.specs.Flags.{is_packed}
 use Rattle.ntfs_def.specs.declared.run_text.Spot.{Spot}

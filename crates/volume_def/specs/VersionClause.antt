@@ -6,7 +6,8 @@ use Rattle.std.specs.Prelude.{◌≡◌, ℕ, ◌+◌, ◌*◌, ◌%◌, ◌<◌
 use Rattle.ntfs_def.specs.declared.kinds.TheConstants.{DATA, VOLUME_INFORMATION}
 use Rattle.ntfs_def.specs.declared.run_text.Spot.TheVariants.{At}
 use Rattle.ntfs_def.specs.declared.records.TheConstants.{MFT_MIRROR, VOLUME}
-use Rattle.ntfs_def.specs.Attribute.{attribute_kind, attribute_place, attributes, content_bytes, first_value, is_resident, name_units, value_len, value_offset}
+use Rattle.ntfs_def.specs.Attribute.{attribute_kind, attribute_place, attributes, content_bytes, first_value, is_resident}
+use Rattle.ntfs_def.specs.Attribute.{name_units, value_len, value_offset}
 use Rattle.ntfs_def.specs.Fixup.{IsSealed, array_end, array_place, opened_of}
 use Rattle.ntfs_def.specs.Record.{is_in_use, used_size}
 use Rattle.ntfs_def.specs.VolumeInformation.{dirty_bit}

@@ -1,5 +1,6 @@
 //! Laws with nothing to run: the parts of files, the entries of their lists, their extents and their values.
-ghost use Rattle.std.specs.Prelude.{◌≡◌, ◌≢◌, ◌+◌, ◌-◌, ◌*◌, ◌/◌, ◌<◌, ◌≤◌, ℕ, All, Contains, List, [], ◌∷◌, ◌++◌, count_by, find, length, map, replicate, slice_range, IsTrue, false};
+ghost use Rattle.std.specs.Prelude.{◌≡◌, ◌≢◌, ◌+◌, ◌-◌, ◌*◌, ◌/◌, ◌<◌, ◌≤◌, ℕ, All, Contains, List, [], ◌∷◌, ◌++◌, count_by, find, length};
+ghost use Rattle.std.specs.Prelude.{map, replicate, slice_range, IsTrue, false};
 ghost use Rattle.ntfs_def.specs.Attribute.{ExtentHeader};
 ghost use Rattle.ntfs_def.specs.AttributeList.{ListEntry};
 ghost use Rattle.ntfs_def.specs.Runs.{spot_of};
@@ -8,14 +9,16 @@ ghost use Rattle.ntfs_def.specs.declared.run_text.Spot.TheVariants.{At};
 ghost use Rattle.volume_def.specs.Edits.{ChangesAt, EditsAt, MovesPart, said_by};
 ghost use Rattle.volume_def.specs.ExtentsClause.{AreAttribute};
 ghost use Rattle.volume_def.specs.Members.{FreesEmpty, HoldsPart, IsPart, TakesEmpty};
-ghost use Rattle.volume_def.specs.Files.{Part, Records, part_clusters, file_of, parts, parts_like, part_runs, record_on, record_in, records_of, joined_runs};
+ghost use Rattle.volume_def.specs.Files.{Part, Records, part_clusters, file_of, parts, parts_like, part_runs, record_on};
+ghost use Rattle.volume_def.specs.Files.{record_in, records_of, joined_runs};
 ghost use Rattle.volume_def.specs.ListsClause.{entries_in, entry_in, is_list};
 ghost use Rattle.volume_def.specs.Coverage.{times_covered};
 ghost use Rattle.list_laws.specs.Replaces.{Replaces};
 ghost use Rattle.list_laws.specs.SameItems.{SameItems};
 ghost use Rattle.volume_def.specs.Spans.{spans_vcn};
 ghost use Rattle.volume_def.specs.StreamSize.{IsFirstExtent, told_size};
-ghost use Rattle.volume_def.specs.Values.{KeepsClusters, attribute_value, first_vcn_of, holds_vcn, is_first, spot_at, spot_by, stored_bytes, value_of_parts};
+ghost use Rattle.volume_def.specs.Values.{KeepsClusters, attribute_value, first_vcn_of, holds_vcn, is_first, spot_at};
+ghost use Rattle.volume_def.specs.Values.{spot_by, stored_bytes, value_of_parts};
 ghost use Rattle.volume_def.specs.Table.{cluster_bytes};
 ghost use Rattle.volume_def.specs.View.{ReplacesBlock, ReplacesPiece, VolumeView};
 

@@ -12,7 +12,8 @@ use Rattle.list_laws.proofs.OptionLaws.{IfSome-weaker}
 use Rattle.volume_def.specs.AttributesClause.{MeetsAttributes}
 use Rattle.volume_def.specs.Coverage.{times_covered}
 use Rattle.volume_def.specs.ExtentsClause.{MeetsExtents}
-use Rattle.volume_def.specs.Files.{Part, Record, Records, file_of, is_base, is_of, part_runs, parts, parts_at, record_in, record_on, records_of}
+use Rattle.volume_def.specs.Files.{Part, Record, Records, file_of, is_base, is_of, part_runs, parts, parts_at}
+use Rattle.volume_def.specs.Files.{record_in, record_on, records_of}
 use Rattle.volume_def.specs.KeptList.{KeepsList}
 use Rattle.volume_def.specs.ListsClause.{HasRightList, entries_in, is_list}
 use Rattle.volume_def.specs.Readable.{IsReadableVolume}

@@ -1,5 +1,6 @@
 -- Bytes written into the clusters of a stream: one sector, and one range behind the other.
-use Rattle.std.proofs.Common.{◌≡◌, ◌≢◌, ◌+◌, ◌-◌, ◌*◌, ◌/◌, ◌%◌, ◌<◌, ◌≤◌, ℕ, Bool, List, [], ◌++◌, length, Some, refl, sym, ap, subst, inl, inr, ◌∙◌, arith, length-append}
+use Rattle.std.proofs.Common.{◌≡◌, ◌≢◌, ◌+◌, ◌-◌, ◌*◌, ◌/◌, ◌%◌, ◌<◌, ◌≤◌, ℕ, Bool, List, [], ◌++◌, length, Some, refl, sym, ap, subst, inl}
+use Rattle.std.proofs.Common.{inr, ◌∙◌, arith, length-append}
 use Rattle.std.specs.Prelude.{◌⊎◌, IsTrue, slice_index}
 use Rattle.std.proofs.Math.Nat.{mul_assoc, mul_comm}
 use Rattle.std.proofs.lemmas.Bool.{cases_eq, cases_lt}
@@ -60,7 +61,8 @@ WritesStream-then a b c spot at mid xs ys e first second =
       others = λ t i out.
           subst (λ n. stored_byte c.cluster n spot i ≡ stored_byte b.cluster n spot i) size
           (second.others (told t) i (elim out [ inl low ↦ inl (omega (arith, low, e)) | inr high ↦ inr (omega (arith, high, e, len)) ]))
-          ∙ first.others t i (elim out as (λ _. (i < at) ⊎ (at + length xs ≤ i)) [ inl low ↦ inl low | inr high ↦ inr (omega (arith, high, len)) ]);
+          ∙ first.others t i (elim out as (λ _. (i < at) ⊎ (at + length xs ≤ i))
+          [ inl low ↦ inl low | inr high ↦ inr (omega (arith, high, len)) ]);
     }
 
 -- a byte of a cluster is one of a piece
@@ -160,7 +162,8 @@ WritesStream-sector told old new layout spot k place bytes apart own e w long le
     let written = subst (λ p. WritesOne told old new p bytes) is w in
     let whole : IsTrue told → (i : ℕ) → i < per → length (old (c * per + i)) ≡ 512 =
     λ t i lt. long t (c * per + i) (omega (arith, mul-add-lt c per i layout.clusters on lt, mul_comm layout.clusters per)) in
-    let piece = ReplacesPiece-written told old new layout c (k % per) bytes apart (own.outside (k / per) c there) on low written whole len in
+    let piece = ReplacesPiece-written told old new layout c (k % per) bytes apart
+    (own.outside (k / per) c there) on low written whole len in
     let at : k / per * (512 * per) + 512 * (k % per) ≡ 512 * k =
     omega (arith, div-add-mod' k per, mul_assoc (k / per) 512 per, mul_comm (k / per) 512, mul_assoc 512 (k / per) per) in
     subst (λ n. WritesStream (view_of told old layout) (view_of told new layout) spot n bytes) at

@@ -1,5 +1,6 @@
 -- No cluster of a sound volume has two owners: the table, its mirror, and what else a file has lie apart.
-use Rattle.std.proofs.Common.{◌≡◌, ◌≢◌, ◌+◌, ◌*◌, ◌/◌, ◌%◌, ◌<◌, ◌≤◌, ℕ, Bool, List, [], ◌∷◌, Some, refl, sym, ap, subst, inl, inr, ◌∙◌, arith}
+use Rattle.std.proofs.Common.{◌≡◌, ◌≢◌, ◌+◌, ◌*◌, ◌/◌, ◌%◌, ◌<◌, ◌≤◌, ℕ, Bool, List, [], ◌∷◌, Some, refl, sym, ap, subst, inl}
+use Rattle.std.proofs.Common.{inr, ◌∙◌, arith}
 use Rattle.std.specs.Prelude.{◌⊎◌, All, Contains, count_by}
 use Rattle.std.specs.List.{flat_map, range_with_len}
 use Rattle.std.proofs.lemmas.Bool.{cases_eq, cases_lt}
@@ -119,7 +120,8 @@ module _ (view : VolumeView) where
       let k = holds g two d in
       let record_same : Some h.record_there ≡ Some k.record_there =
       sym h.held ∙ ap (λ (p : Part). records.record_at p.holder) same ∙ k.held in
-      ne (sym h.file ∙ of-same h.record_there k.record_there one.holder record_same ∙ ap (λ (p : Part). file_of p.holder k.record_there) same ∙ k.file)
+      ne (sym h.file ∙ of-same h.record_there k.record_there one.holder record_same
+      ∙ ap (λ (p : Part). file_of p.holder k.record_there) same ∙ k.file)
     where
       of-same : (r s : Record) (n : ℕ) → Some r ≡ Some s → file_of n r ≡ file_of n s
       of-same r s n e = let q : r ≡ s = cc in ap (file_of n) q
@@ -208,7 +210,8 @@ module _ (view : VolumeView) where
       apart = λ c.
           let once = (o.owners c).once in
           let owned = owned-once MFT o.table.part c o.table.among in
-          let runs : times_covered (part_runs o.table.part) c ≡ times_covered view.layout.runs c = ap (λ xs. times_covered xs c) o.table.runs in
+          let runs : times_covered (part_runs o.table.part) c ≡ times_covered view.layout.runs c =
+          ap (λ xs. times_covered xs c) o.table.runs in
           omega (arith, once, owned, runs);
       mirror = λ s few.
           let m = mirror-holds s few some in

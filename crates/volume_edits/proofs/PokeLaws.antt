@@ -1,11 +1,14 @@
 -- A record of which bytes of one resident value were changed: it has the shape, and all its other attributes and its header.
-use Rattle.std.proofs.Common.{◌≡◌, ◌+◌, ◌-◌, ◌*◌, ◌%◌, ◌<◌, ◌≤◌, ◌==◌, ℕ, zero, suc, cond, List, [], ◌∷◌, ◌++◌, length, get_or, take, drop, Some, refl, sym, ap, subst, inl, inr, ◌∙◌, arith, length-drop, length-take, take-append-drop}
+use Rattle.std.proofs.Common.{◌≡◌, ◌+◌, ◌-◌, ◌*◌, ◌%◌, ◌<◌, ◌≤◌, ◌==◌, ℕ, zero, suc, cond, List, [], ◌∷◌, ◌++◌, length, get_or, take, drop}
+use Rattle.std.proofs.Common.{Some, refl, sym, ap, subst, inl, inr, ◌∙◌, arith, length-drop, length-take, take-append-drop}
 use Rattle.std.specs.Prelude.{◌⊎◌, IsTrue, min, slice_get, slice_range}
 use Rattle.std.proofs.lemmas.Bool.{cases_lt}
 use Rattle.std.proofs.lemmas.List.{get_or-drop, get_or-take, get_or_default, same_lists}
 use Rattle.vol_bytes.proofs.FieldLaws.{u16_at-same, u32_at-same, u64_at-same}
-use Rattle.ntfs_def.specs.Attribute.{attribute_at, attribute_flags, attribute_id, attribute_kind, attribute_len, attribute_place, attributes, body_at, content_bytes, content_end, content_offset, extent_at, has_compressed_len, header_len, is_resident, name_bytes, name_end, name_offset, name_units, runs_offset, value_len, value_offset}
-use Rattle.ntfs_def.specs.Attribute.{NonResident, Resident}
+use Rattle.ntfs_def.specs.Attribute.{attribute_at, attribute_flags, attribute_id, attribute_kind, attribute_len, attribute_place}
+use Rattle.ntfs_def.specs.Attribute.{attributes, body_at, content_bytes, content_end, content_offset, extent_at, has_compressed_len}
+use Rattle.ntfs_def.specs.Attribute.{header_len, is_resident, name_bytes, name_end, name_offset, name_units, runs_offset, value_len}
+use Rattle.ntfs_def.specs.Attribute.{value_offset, NonResident, Resident}
 use Rattle.ntfs_def.specs.Record.{base_in, header_of, is_in_use, used_size}
 use Rattle.ntfs_def.specs.Shape.{HasShape, IsAttribute, IsWhole}
 use Rattle.ntfs_def.specs.Splice.{IsSpliced}
@@ -123,7 +126,11 @@ module _ (o o' : List ℕ) (count i from to : ℕ) (shape : HasShape o count) (l
   }
 
   bounded : (0x38 ≤ at) × (used_size o ≤ 1024) × (length o ≡ 1024)
-  bounded = ((attribute_place-bounded o count i shape (omega (arith, lt))).low, header_failing-used o shape.header, header_failing-length o shape.header)
+  bounded = (
+    (attribute_place-bounded o count i shape (omega (arith, lt))).low,
+    header_failing-used o shape.header,
+    header_failing-length o shape.header,
+  )
 
   -- bytes of the header of the record
   front : (k : ℕ) → k < 0x38 → get_or o' k 0 ≡ get_or o k 0
@@ -160,7 +167,8 @@ module _ (o o' : List ℕ) (count i from to : ℕ) (shape : HasShape o count) (l
   shape-poked =
       let e : count - (i + 1) + (1 + i) ≡ count = omega (arith, lt) in
       subst (HasShape o') e
-      (HasShape-spliced o o' count i 1 1 (count - (i + 1)) (attribute_len o at) (attribute_len o at) shape split taken (refl, whole', len') fits spliced)
+      (HasShape-spliced o o' count i 1 1 (count - (i + 1)) (attribute_len o at) (attribute_len o at) shape split taken
+      (refl, whole', len') fits spliced)
 
   pub attributes-poked : Replaces (attributes o) (attributes o') (attribute_at o at ∷ []) (attribute_at o' at ∷ [])
   attributes-poked = record {
@@ -171,7 +179,8 @@ module _ (o o' : List ℕ) (count i from to : ℕ) (shape : HasShape o count) (l
         sym (take-append-drop i (attributes o))
         ∙ ap (λ xs. take i (attributes o) ++ xs) (drop-at (attributes o) i (attribute_at o at) (slice_get-attributes o count i shape lt)
         ∙ ap (λ k. attribute_at o at ∷ drop k (attributes o)) (let e : suc i ≡ i + 1 = omega arith in e));
-    new_is = attributes-spliced o o' count i 1 1 (count - (i + 1)) (attribute_len o at) (attribute_len o at) shape split taken (refl, whole', len') fits spliced;
+    new_is = attributes-spliced o o' count i 1 1 (count - (i + 1)) (attribute_len o at) (attribute_len o at) shape split taken
+        (refl, whole', len') fits spliced;
   }
     where
       drop-at : {A : Type 0} (xs : List A) (j : ℕ) (x : A) → slice_get xs j ≡ Some x → drop j xs ≡ x ∷ drop (suc j) xs
@@ -182,8 +191,10 @@ module _ (o o' : List ℕ) (count i from to : ℕ) (shape : HasShape o count) (l
   pub header-poked : header_of o' ≡ header_of o
   unfolding header_of
   header-poked =
-      headers_same _ _ (u16_at-same o o' 0x10 (λ k f t. front k (omega (arith, t)))) (u16_at-same o o' 0x12 (λ k f t. front k (omega (arith, t))))
-      (u16_at-same o o' 0x16 (λ k f t. front k (omega (arith, t)))) (ap base_in (u64_at-same o o' 0x20 (λ k f t. front k (omega (arith, t)))))
+      headers_same _ _ (u16_at-same o o' 0x10 (λ k f t. front k (omega (arith, t))))
+      (u16_at-same o o' 0x12 (λ k f t. front k (omega (arith, t))))
+      (u16_at-same o o' 0x16 (λ k f t. front k (omega (arith, t))))
+      (ap base_in (u64_at-same o o' 0x20 (λ k f t. front k (omega (arith, t)))))
       (u16_at-same o o' 0x28 (λ k f t. front k (omega (arith, t)))) (u32_at-same o o' 0x2C (λ k f t. front k (omega (arith, t))))
 
   pub in_use-poked : is_in_use o' ≡ is_in_use o

@@ -1,11 +1,13 @@
 -- A sound volume stays so where a value is rewritten of which no clause asks.
-use Rattle.std.proofs.Common.{◌≡◌, ◌≢◌, ◌+◌, ◌*◌, ◌==◌, ◌&&◌, ◌<◌, ◌≤◌, ◌↔◌, ℕ, zero, suc, Bool, true, false, cond, All, List, [], ◌∷◌, ◌++◌, length, map, length-append, Option, Some, None, refl, sym, ap, subst, inl, inr, ◌∙◌, arith}
+use Rattle.std.proofs.Common.{◌≡◌, ◌≢◌, ◌+◌, ◌*◌, ◌==◌, ◌&&◌, ◌<◌, ◌≤◌, ◌↔◌, ℕ, zero, suc, Bool, true, false, cond, All, List, [], ◌∷◌}
+use Rattle.std.proofs.Common.{◌++◌, length, map, length-append, Option, Some, None, refl, sym, ap, subst, inl, inr, ◌∙◌, arith}
 use Rattle.std.specs.Prelude.{◌⊎◌, Contains, IfSome, IsSome, IsSomeAnd, IsTrue, codes, count_by, filter, find, option_and_then, option_map}
 use Rattle.std.proofs.lemmas.Bool.{and_parts, cases_eq, eq-eqb, eqb-true}
 use Rattle.std.proofs.lemmas.List.Elements.{All-contains, All-weaker}
 use Rattle.ntfs_def.specs.declared.index.NodeForm.{NodeForm}
 use Rattle.ntfs_def.specs.declared.index.NodeForm.TheVariants.{Names, View}
-use Rattle.ntfs_def.specs.declared.kinds.TheConstants.{ATTRIBUTE_LIST, BITMAP, DATA, FILE_NAME, INDEX_ALLOCATION, INDEX_ROOT, STANDARD_INFORMATION}
+use Rattle.ntfs_def.specs.declared.kinds.TheConstants.{ATTRIBUTE_LIST, BITMAP, DATA, FILE_NAME}
+use Rattle.ntfs_def.specs.declared.kinds.TheConstants.{INDEX_ALLOCATION, INDEX_ROOT, STANDARD_INFORMATION}
 use Rattle.ntfs_def.specs.declared.records.TheConstants.{BOOT, CLUSTER_BITMAP, MFT, MFT_MIRROR, ROOT, UPCASE, VOLUME}
 use Rattle.list_laws.specs.Bits.{bit_in}
 use Rattle.ntfs_def.specs.FileName.{FileName, link_of}
@@ -23,8 +25,11 @@ use Rattle.volume_def.specs.CaseClause.{MeetsCaseTable, case_parts, volume_fold}
 use Rattle.volume_def.specs.Coverage.{times_covered}
 use Rattle.volume_def.specs.ExtentsClause.{AreAttribute, AreWhole, FitExtents, FollowFrom, MeetsExtents, has_sizes}
 use Rattle.volume_def.specs.FileNames.{is_in_directory, is_not_dos, links}
-use Rattle.volume_def.specs.Files.{Part, all_covered, Record, Records, content_extent, content_runs, content_value, file_of, is_base, is_directory, is_of, joined_runs, part_clusters, parts, parts_like, record_on, records_of}
-use Rattle.volume_def.specs.IndexesClause.{name_rule, HasIndex, IndexParts, IsDirectoryIndex, IsIndexRecordAt, KeyRule, MeetsIndexes, MeetsViewIndex, StandsInExtend, hash_rule, id_rule, index_nodes, index_parts, is_in_extend, word_rule}
+use Rattle.volume_def.specs.Files.{Part, all_covered, Record, Records, content_extent, content_runs, content_value, file_of, is_base}
+use Rattle.volume_def.specs.Files.{is_directory, is_of, joined_runs, part_clusters, parts, parts_like, record_on, records_of}
+use Rattle.volume_def.specs.IndexesClause.{name_rule, HasIndex, IndexParts, IsDirectoryIndex, IsIndexRecordAt, KeyRule, MeetsIndexes}
+use Rattle.volume_def.specs.IndexesClause.{MeetsViewIndex, StandsInExtend, hash_rule, id_rule, index_nodes}
+use Rattle.volume_def.specs.IndexesClause.{index_parts, is_in_extend, word_rule}
 use Rattle.volume_def.specs.LimitsClause.{IsInLimits, MeetsLimits}
 use Rattle.volume_def.specs.LinksClause.{HasRightLinks, IsPairedAmong, MeetsLinks, ReachesRoot, parent_of, steps_up}
 use Rattle.volume_def.specs.ListsClause.{HasRightList, IsAlone, IsRightList, MeetsLists, is_list, list_value}
@@ -35,7 +40,8 @@ use Rattle.list_laws.specs.Replaces.{Replaces}
 use Rattle.list_laws.specs.SameItems.{SameItems}
 use Rattle.volume_def.specs.ShapeClause.{MeetsShape}
 use Rattle.volume_def.specs.Sound.{Clause, Holds, IsSound, Meets, rank_of}
-use Rattle.volume_def.specs.Sound.{Attributes, CaseTable, ClusterBits, Extents, Indexes, Limits, Links, Lists, Mirror, MirrorPlace, Owners, RecordBits, References, Shape, Version}
+use Rattle.volume_def.specs.Sound.{Attributes, CaseTable, ClusterBits, Extents, Indexes, Limits, Links, Lists, Mirror, MirrorPlace, Owners}
+use Rattle.volume_def.specs.Sound.{RecordBits, References, Shape, Version}
 use Rattle.volume_def.specs.Table.{IsWellFormed, cluster_bytes}
 use Rattle.volume_def.specs.Values.{IsPlain, KeepsClusters, first_part, value_on}
 use Rattle.volume_def.specs.VersionClause.{HasVersion, IsMirror, Mirrors, MeetsMirror, MeetsMirrorPlace, MeetsVersion}
@@ -63,7 +69,8 @@ ascends-replaced : (was now : Part) (before behind : List Part) (least : ℕ) �
 ascends-replaced was now [] behind least same h = subst (λ k. (least ≤ k) × AscendsFrom k behind) (sym same) h
 ascends-replaced was now (x ∷ before) behind least same h = (h.0, ascends-replaced was now before behind x.kind same h.1)
 
-module _ {root : Bool} (view : VolumeView) (block copy : ℕ → List ℕ) (n : ℕ) (was now : Part) (e : EditsKind root view block copy n was now) where
+module _ {root : Bool} (view : VolumeView) (block copy : ℕ → List ℕ) (n : ℕ) (was now : Part)
+    (e : EditsKind root view block copy n was now) where
   abbrev other : VolumeView
   other = with_blocks view block copy
 
@@ -138,13 +145,15 @@ module _ {root : Bool} (view : VolumeView) (block copy : ℕ → List ℕ) (n : 
   right-list f h =
       let all = parts olds f in
       let k : HasRightList other f all =
-      HasRightList-kept view other f all refl (All-from_Contains (λ part. IsTrue (is_list part) → KeepsClusters view other (part ∷ [])) all (λ part c t vcn cluster at. refl))
+      HasRightList-kept view other f all refl
+      (All-from_Contains (λ part. IsTrue (is_list part) → KeepsClusters view other (part ∷ [])) all (λ part c t vcn cluster at. refl))
       (entries_in-kept olds news n (was ∷ []) (now ∷ []) e.edit all) (alone-kept f) h in
       let lists = parts_of.count-kept view block copy n was now e is_list f (ap (λ kind. kind == ATTRIBUTE_LIST) e.rewrites.kind) in
       record {
         few = let few = k.few in omega (arith, few, lists);
         each = parts_of.all-kept view block copy n was now e (λ part. IsTrue (is_list part) → IsRightList other f (parts news f) part) f
-            (All-from_Contains (λ part. IsTrue (is_list part) → IsRightList other f (parts news f) part) all (λ part c t. right (All-contains (λ part. IsTrue (is_list part) → IsRightList other f all part) all part k.each c t)))
+            (All-from_Contains (λ part. IsTrue (is_list part) → IsRightList other f (parts news f) part) all
+            (λ part c t. right (All-contains (λ part. IsTrue (is_list part) → IsRightList other f all part) all part k.each c t)))
             (λ t. absurd (parts_of.kind-now view block copy n was now e ATTRIBUTE_LIST (parts_of.not-list view block copy n was now e)
             (eqb-true now.kind ATTRIBUTE_LIST t)));
         alone = λ none. k.alone (sym lists ∙ none);
@@ -155,7 +164,8 @@ module _ {root : Bool} (view : VolumeView) (block copy : ℕ → List ℕ) (n : 
         home = r.home;
         plain = r.plain;
         readable = r.readable;
-        each_once = subst (λ xs. SameItems xs (list_entries (list_value other part))) (sym (parts_of.entries-kept view block copy n was now e f))
+        each_once = subst (λ xs. SameItems xs (list_entries (list_value other part)))
+            (sym (parts_of.entries-kept view block copy n was now e f))
             r.each_once;
       }
 
@@ -171,7 +181,8 @@ module _ {root : Bool} (view : VolumeView) (block copy : ℕ → List ℕ) (n : 
   owners-kept m h =
       let t = parts_of.times_owned-kept view block copy n was now e m in
       let d = parts_of.not-data view block copy n was now e in
-      let b = parts_of.filter-kept view block copy n was now e (is_of DATA []) BOOT (parts_of.fails-was view block copy n was now e DATA [] d)
+      let b = parts_of.filter-kept view block copy n was now e (is_of DATA []) BOOT
+      (parts_of.fails-was view block copy n was now e DATA [] d)
       (parts_of.fails-now view block copy n was now e DATA [] d) in
       record {
         boot = λ z. subst (λ xs. 1 ≤ times_covered (joined_runs xs) 0) (sym b) (h.boot z);
@@ -233,16 +244,19 @@ module _ {root : Bool} (view : VolumeView) (block copy : ℕ → List ℕ) (n : 
         base = subst (λ b. IfSome b (NamesBase news)) (sym e.edit.header.base)
             (IfSome-weaker (NamesBase olds) (NamesBase news) e.edit.was_record.header.base names_base h.base);
         parents = subst (All (λ name. NamesDirectory news name.parent)) (sym (parts_of.among-kept view block copy n was now e))
-            (All-weaker (λ (name : FileName). NamesDirectory olds name.parent) (λ name. NamesDirectory news name.parent) (λ name. names_directory name.parent) _ h.parents);
+            (All-weaker (λ (name : FileName). NamesDirectory olds name.parent) (λ name. NamesDirectory news name.parent)
+            (λ name. names_directory name.parent) _ h.parents);
       })
       (λ o h. IfSome-weaker (HasRightReferences olds) (HasRightReferences news) o (λ r x. record {
         base = IfSome-weaker (NamesBase olds) (NamesBase news) r.header.base names_base x.base;
-        parents = All-weaker (λ (name : FileName). NamesDirectory olds name.parent) (λ name. NamesDirectory news name.parent) (λ name. names_directory name.parent) _ x.parents;
+        parents = All-weaker (λ (name : FileName). NamesDirectory olds name.parent) (λ name. NamesDirectory news name.parent)
+            (λ name. names_directory name.parent) _ x.parents;
       }) h)
 
   -- S11
   parent-kept : parent_of news ≡ parent_of olds
-  parent-kept = ap {B = ℕ → Option ℕ} (λ (names : ℕ → List FileName) f. option_map (λ (name : FileName). name.parent.number) (find is_not_dos (names f)))
+  parent-kept = ap {B = ℕ → Option ℕ}
+      (λ (names : ℕ → List FileName) f. option_map (λ (name : FileName). name.parent.number) (find is_not_dos (names f)))
       (parts_of.names-kept view block copy n was now e)
 
   steps-kept : (k : ℕ) (from : Option ℕ) → steps_up k news from ≡ steps_up k olds from
@@ -267,12 +281,14 @@ module _ {root : Bool} (view : VolumeView) (block copy : ℕ → List ℕ) (n : 
   links-kept f h = record {
     links = cases f (λ o o'. IfSome o (λ r. IsTrue (is_base r) → HasRightLinks olds f r)
         → IfSome o' (λ r. IsTrue (is_base r) → HasRightLinks news f r))
-        (λ here x b. right-links f e.edit.was_record e.edit.now_record e.edit.header.links (parts_of.directory-same view block copy n was now e)
+        (λ here x b. right-links f e.edit.was_record e.edit.now_record e.edit.header.links
+        (parts_of.directory-same view block copy n was now e)
         (x (parts_of.base-back view block copy n was now e b)))
         (λ o x. IfSome-weaker _ _ o (λ r y b. right-links f r r refl refl (y b)) x) h.links;
     root = λ is. cases ROOT (λ o o'. IsSomeAnd o (λ r. IsTrue (is_base r) × IsTrue (is_directory r))
         → IsSomeAnd o' (λ r. IsTrue (is_base r) × IsTrue (is_directory r)))
-        (λ here x. (parts_of.base-same view block copy n was now e x.0, parts_of.directory-same view block copy n was now e ∙ x.1)) (λ o x. x)
+        (λ here x. (parts_of.base-same view block copy n was now e x.0, parts_of.directory-same view block copy n was now e ∙ x.1))
+        (λ o x. x)
         (h.root is);
   }
 
@@ -300,7 +316,8 @@ module _ {root : Bool} (view : VolumeView) (block copy : ℕ → List ℕ) (n : 
 
   mirror_place-kept : (m : ℕ) → MeetsMirrorPlace view m → MeetsMirrorPlace other m
   mirror_place-kept m meets is =
-      let h = subst (IsMirror view) (sym (parts_of.parts_at-kept view block copy n was now e MFT_MIRROR DATA [] (parts_of.not-data view block copy n was now e)))
+      let h = subst (IsMirror view)
+      (sym (parts_of.parts_at-kept view block copy n was now e MFT_MIRROR DATA [] (parts_of.not-data view block copy n was now e)))
       (meets is) in
       record { plain = h.plain; extent = h.extent; placed = h.placed }
 
@@ -333,7 +350,8 @@ module _ {root : Bool} (view : VolumeView) (block copy : ℕ → List ℕ) (n : 
   index_parts-kept : root ≡ false → (f : ℕ) (name : List ℕ) → index_parts other f name ≡ index_parts view f name
   index_parts-kept plain f name = λ i. record {
     root = parts_of.parts_at-kept view block copy n was now e f INDEX_ROOT name (parts_of.not-root view block copy n was now e plain) i;
-    records = parts_of.parts_at-kept view block copy n was now e f INDEX_ALLOCATION name (parts_of.not-records view block copy n was now e) i;
+    records = parts_of.parts_at-kept view block copy n was now e f INDEX_ALLOCATION name
+        (parts_of.not-records view block copy n was now e) i;
     bits = parts_of.parts_at-kept view block copy n was now e f BITMAP name (parts_of.not-bitmap view block copy n was now e) i;
   }
 
@@ -351,7 +369,8 @@ module _ {root : Bool} (view : VolumeView) (block copy : ℕ → List ℕ) (n : 
   unfolding index_nodes
   nodes-same form index = refl
 
-  abbrev walks-kept : (form : NodeForm) (index : IndexParts) (node : Node) (items : List Item) → Walks (index_nodes form view index) node items
+  abbrev walks-kept : (form : NodeForm) (index : IndexParts) (node : Node) (items : List Item)
+      → Walks (index_nodes form view index) node items
       → Walks (index_nodes form other index) node items
   walks-kept form index node items w = record {
     depth = w.depth;
@@ -409,7 +428,8 @@ module _ {root : Bool} (view : VolumeView) (block copy : ℕ → List ℕ) (n : 
             (sym (parts_of.links-kept view block copy n was now e)) d.names;
       }
 
-  view_index-kept : root ≡ false → (f : ℕ) (name : List ℕ) (rule : KeyRule) → MeetsViewIndex view f name rule → MeetsViewIndex other f name rule
+  view_index-kept : root ≡ false → (f : ℕ) (name : List ℕ) (rule : KeyRule) → MeetsViewIndex view f name rule
+      → MeetsViewIndex other f name rule
   view_index-kept plain f name rule meets there =
       let same = index_parts-kept plain f (wide name) in
       let h = meets (subst (λ (x : IndexParts). 1 ≤ length x.root) same there) in
@@ -456,7 +476,8 @@ module _ {root : Bool} (view : VolumeView) (block copy : ℕ → List ℕ) (n : 
   only-value (x ∷ y ∷ xs) h c = absurd (no-value 0 (x ∷ y ∷ xs) h c)
 
   is_of-itself : (part : Part) → is_of part.kind part.name part ≡ true
-  is_of-itself part = ap (λ b. b && bytes_eq part.name part.name) (eq-eqb part.kind part.kind refl) ∙ (bytes_eq-Decides part.name part.name).1 refl
+  is_of-itself part = ap (λ b. b && bytes_eq part.name part.name) (eq-eqb part.kind part.kind refl)
+      ∙ (bytes_eq-Decides part.name part.name).1 refl
 
   one-item : (x : Part) (xs : List Part) → length xs ≡ 1 → Contains xs x → xs ≡ x ∷ []
   one-item x [] l c = absurd (Contains-nil x c)
@@ -513,7 +534,8 @@ module _ {root : Bool} (view : VolumeView) (block copy : ℕ → List ℕ) (n : 
         replaced-one (parts_like was (parts news f))
             (subst (λ xs. Replaces xs (parts_like was (parts news f)) (was ∷ []) (now ∷ [])) alone
             (subst (λ xs. Replaces (parts_like was (parts olds f)) (parts_like was (parts news f)) xs (now ∷ [])) a
-            (subst (λ xs. Replaces (parts_like was (parts olds f)) (parts_like was (parts news f)) (filter (is_of was.kind was.name) (was ∷ [])) xs) b f_r))),
+            (subst (λ xs. Replaces (parts_like was (parts olds f)) (parts_like was (parts news f))
+            (filter (is_of was.kind was.name) (was ∷ [])) xs) b f_r))),
       )
 
   extents-own : (size f : ℕ) → file_of n e.edit.was_record ≡ f → All (AreExtents size f (parts olds f)) (parts olds f)
@@ -554,7 +576,8 @@ module _ {root : Bool} (view : VolumeView) (block copy : ℕ → List ℕ) (n : 
       (λ o h. IfSome-weaker _ _ o (λ r x b. extents-all size f (x b)) h)
 
   -- each clause, that on indexes where the value is no root
-  pub clause-kept : (clause : Clause) → (rank_of clause ≡ rank_of Indexes → root ≡ false) → (m : ℕ) → Meets clause view m → Meets clause other m
+  pub clause-kept : (clause : Clause) → (rank_of clause ≡ rank_of Indexes → root ≡ false) → (m : ℕ)
+      → Meets clause view m → Meets clause other m
   clause-kept Shape plain m h = shape-kept m h
   clause-kept Attributes plain m h = attributes-kept m h
   clause-kept Lists plain m h = lists-kept m h
@@ -571,7 +594,8 @@ module _ {root : Bool} (view : VolumeView) (block copy : ℕ → List ℕ) (n : 
   clause-kept Mirror plain m h = mirror-kept m h
   clause-kept Limits plain m h = limits-kept m h
 
-pub sound-kept : (view : VolumeView) (block copy : ℕ → List ℕ) (n : ℕ) (was now : Part) → EditsQuietly view block copy n was now → IsSound view
+pub sound-kept : (view : VolumeView) (block copy : ℕ → List ℕ) (n : ℕ) (was now : Part)
+    → EditsQuietly view block copy n was now → IsSound view
     → IsSound (with_blocks view block copy)
 sound-kept view block copy n was now e sound clause m = clause-kept view block copy n was now e clause (λ is. refl) m (sound clause m)
 

@@ -1,17 +1,20 @@
 -- What an edit leaves that rewrites a value of which no clause asks: the parts of all other types, and the names of files.
-use Rattle.std.proofs.Common.{◌≡◌, ◌≢◌, ◌+◌, ◌==◌, ◌/◌, ◌%◌, ℕ, Bool, true, false, cond, All, List, [], ◌∷◌, ◌++◌, map, not, Option, Some, None, refl, sym, ap, subst, inl, inr, ◌∙◌, arith, true≢false}
+use Rattle.std.proofs.Common.{◌≡◌, ◌≢◌, ◌+◌, ◌==◌, ◌/◌, ◌%◌, ℕ, Bool, true, false, cond, All, List, [], ◌∷◌, ◌++◌, map, not, Option, Some}
+use Rattle.std.proofs.Common.{None, refl, sym, ap, subst, inl, inr, ◌∙◌, arith, true≢false}
 use Rattle.std.specs.Prelude.{IsTrue, count_by, filter, filter_map, is_none, option_map, unwrap_or}
 use Rattle.std.specs.List.{flat_map, range_with_len}
 use Rattle.std.proofs.Math.Path.{fun_ext}
 use Rattle.std.proofs.lemmas.Bool.{and_left, cases_eq, ne_eqb}
 use Rattle.std.proofs.lemmas.List.Elements.{All-contains}
-use Rattle.ntfs_def.specs.declared.kinds.TheConstants.{ATTRIBUTE_LIST, BITMAP, DATA, FILE_NAME, INDEX_ALLOCATION, INDEX_ROOT, STANDARD_INFORMATION, VOLUME_INFORMATION}
+use Rattle.ntfs_def.specs.declared.kinds.TheConstants.{ATTRIBUTE_LIST, BITMAP, DATA, FILE_NAME, INDEX_ALLOCATION}
+use Rattle.ntfs_def.specs.declared.kinds.TheConstants.{INDEX_ROOT, STANDARD_INFORMATION, VOLUME_INFORMATION}
 use Rattle.ntfs_def.specs.AttributeList.{ListEntry}
 use Rattle.ntfs_def.specs.FileName.{FileName, Link, name_in}
 use Rattle.ntfs_def.specs.Record.{Reference}
 use Rattle.ntfs_def.specs.declared.run_text.Run.{Run}
 use Rattle.volume_def.specs.FileNames.{is_file_name, links, links_of_file, names_among, names_of}
-use Rattle.volume_def.specs.Files.{Content, Value, Part, Record, Records, content_runs, content_value, file_of, is_base, is_directory, is_of, part_runs, parts, parts_at, records_of}
+use Rattle.volume_def.specs.Files.{Content, Value, Part, Record, Records, content_runs, content_value, file_of, is_base, is_directory}
+use Rattle.volume_def.specs.Files.{is_of, part_runs, parts, parts_at, records_of}
 use Rattle.volume_def.specs.ListsClause.{entries_in, entry_in, is_list, listed_parts, sequence_in}
 use Rattle.volume_def.specs.Coverage.{times_covered}
 use Rattle.volume_def.specs.OwnersClause.{all_runs, record_runs, times_owned}
@@ -21,7 +24,8 @@ use Rattle.volume_def.specs.View.{VolumeView}
 use Rattle.list_laws.proofs.FindLaws.{count-cons}
 use Rattle.list_laws.proofs.MemberLaws.{All-from_Contains, Contains-only}
 use Rattle.volume_def.proofs.RecordLaws.{file_of-kept, parts-other, parts-own_at}
-use Rattle.list_laws.proofs.ReplacesLaws.{Replaces-count, Replaces-filter, Replaces-flat_map, Replaces-itself, Replaces-map, Replaces-member}
+use Rattle.list_laws.proofs.ReplacesLaws.{Replaces-count, Replaces-filter, Replaces-flat_map}
+use Rattle.list_laws.proofs.ReplacesLaws.{Replaces-itself, Replaces-map, Replaces-member}
 use Rattle.volume_edits.specs.Quiet.{EditsKind, RewritesKind, RewritesValue, with_blocks}
 
 -- the types of which clauses ask
@@ -57,7 +61,8 @@ all-replaced was now P old new r all here = All-from_Contains P new (λ x c. eli
   | inr came ↦ subst P (Contains-only now x came) here
 ])
 
-module _ {root : Bool} (view : VolumeView) (block copy : ℕ → List ℕ) (n : ℕ) (was now : Part) (e : EditsKind root view block copy n was now) where
+module _ {root : Bool} (view : VolumeView) (block copy : ℕ → List ℕ) (n : ℕ) (was now : Part)
+    (e : EditsKind root view block copy n was now) where
   abbrev other : VolumeView
   other = with_blocks view block copy
 
@@ -140,7 +145,8 @@ module _ {root : Bool} (view : VolumeView) (block copy : ℕ → List ℕ) (n : 
   not-root = root-asked root was now e.rewrites
 
   pub not-records : was.kind ≢ INDEX_ALLOCATION
-  not-records = unasked-kind root was now INDEX_ALLOCATION e.rewrites (λ q. omega (arith, q)) (λ q. omega (arith, q)) (λ q. omega (arith, q))
+  not-records = unasked-kind root was now INDEX_ALLOCATION e.rewrites (λ q. omega (arith, q))
+      (λ q. omega (arith, q)) (λ q. omega (arith, q))
 
   -- Names.
   pub among-kept : names_among e.edit.now_record.parts ≡ names_among e.edit.was_record.parts
@@ -163,7 +169,8 @@ module _ {root : Bool} (view : VolumeView) (block copy : ℕ → List ℕ) (n : 
   links_of-kept : (f : ℕ) → links_of_file news f (news.record_at f) ≡ links_of_file olds f (olds.record_at f)
   links_of-kept f = record-cases f (λ o o'. links_of_file news f o' ≡ links_of_file olds f o)
       (λ here.
-      let link : List FileName → ℕ → List Link = λ names sequence. map (λ name. record { file = record { number = f; sequence = sequence }; name = name }) names in
+      let link : List FileName → ℕ → List Link =
+      λ names sequence. map (λ name. record { file = record { number = f; sequence = sequence }; name = name }) names in
       ap (λ (b : Option Reference). cond (is_none b) (link (names_of news f) e.edit.now_record.header.sequence) []) e.edit.header.base
       ∙ ap (λ s. cond (is_base e.edit.was_record) (link (names_of news f) s) []) e.edit.header.sequence
       ∙ ap (λ names. cond (is_base e.edit.was_record) (link names e.edit.was_record.header.sequence) []) (names_of-kept f))

@@ -1,6 +1,7 @@
 -- A record of the table that was written with another value of one attribute, of which no clause asks more than its length, or which is the
 -- root of an index: the volume that was written, the edit of one block that it is, and the clauses that hold still.
-use Rattle.std.proofs.Common.{◌≡◌, ◌≢◌, ◌≤◌, ◌<◌, ℕ, Bool, true, cond, List, [], ◌∷◌, Some, None, refl, sym, ap, subst, inl, inr, ◌∙◌, arith}
+use Rattle.std.proofs.Common.{◌≡◌, ◌≢◌, ◌≤◌, ◌<◌, ℕ, Bool, true, cond, List, [], ◌∷◌, Some, None, refl, sym, ap, subst, inl}
+use Rattle.std.proofs.Common.{inr, ◌∙◌, arith}
 use Rattle.std.specs.Prelude.{Contains, IsTrue, nat_lt, unwrap_or}
 use Rattle.std.proofs.lemmas.Bool.{cases_eq, lt-ltb}
 use Rattle.ntfs_def.specs.Attribute.{Attribute}
@@ -9,7 +10,8 @@ use Rattle.ntfs_def.specs.Record.{is_in_use}
 use Rattle.ntfs_def.specs.declared.records.TheConstants.{VOLUME}
 use Rattle.volume_def.specs.Coverage.{times_covered}
 use Rattle.volume_def.specs.Edits.{EditsAt}
-use Rattle.volume_def.specs.Files.{Content, Part, content_runs, file_of, part_of, part_runs, parts, record_in, record_of, record_on, records_of}
+use Rattle.volume_def.specs.Files.{Content, Part, content_runs, file_of, part_of, part_runs, parts, record_in}
+use Rattle.volume_def.specs.Files.{record_of, record_on, records_of}
 use Rattle.volume_def.specs.Looked.{IsLookedAt, with_clusters}
 use Rattle.volume_def.specs.Sound.{Clause, Holds, Indexes, rank_of}
 use Rattle.volume_def.specs.Table.{IsWellFormed}
@@ -26,7 +28,8 @@ use Rattle.volume_edits.proofs.OwnerLaws.{lies-looked}
 use Rattle.volume_edits.proofs.QuietClauses.{beside-kept}
 
 -- THE EDIT OF ONE BLOCK: a part that covers a cluster stood there before.
-module _ {root : Bool} (view : VolumeView) (block copy : ℕ → List ℕ) (n : ℕ) (was now : Part) (e : EditsKind root view block copy n was now) where
+module _ {root : Bool} (view : VolumeView) (block copy : ℕ → List ℕ) (n : ℕ) (was now : Part)
+    (e : EditsKind root view block copy n was now) where
   pub covering-stood : (f : ℕ) (part : Part) (c : ℕ) → Contains (parts (records_of (with_blocks view block copy)) f) part
       → 1 ≤ times_covered (part_runs part) c → Contains (parts (records_of view) f) part
   covering-stood f part c among covered = elim (cases_eq (file_of n e.edit.was_record) f) [
@@ -82,7 +85,11 @@ module _ (old new : VolumeView) (n : ℕ) (stored : List ℕ) (was now : Attribu
 
   abbrev pub changed : EditsAt (records_of old) (records_of mid) n (part_of n was ∷ []) (part_of n now ∷ [])
   changed = record {
-    changes = record { count = refl; others = λ m ne. ap (λ b. cond (nat_lt m old.layout.count) (record_in m b) None) (r.replaces.blocks m ne) };
+    changes = record {
+      count = refl;
+      others = λ m ne.
+          ap (λ b. cond (nat_lt m old.layout.count) (record_in m b) None) (r.replaces.blocks m ne);
+    };
     inside = r.inside;
     was_record = record_of n (opened_of (old.block n));
     now_record = record_of n (opened_of stored);

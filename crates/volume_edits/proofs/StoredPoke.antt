@@ -7,7 +7,8 @@ use Rattle.vol_bytes.proofs.FieldLaws.{u16_at-same}
 use Rattle.ntfs_def.specs.Fixup.{IsSealed, array_count, array_place, opened_of, pair_place, sequence_number, stride_end}
 use Rattle.ntfs_def.proofs.FixupLaws.{get_or-opened_of, length-opened_of, opened_of-within}
 
-module _ (s s' : List ℕ) (b : ℕ) (all : length s ≡ 1024) (len : length s' ≡ length s) (place : array_place s ≡ 0x30) (numbers : array_count s ≡ 3)
+module _ (s s' : List ℕ) (b : ℕ) (all : length s ≡ 1024) (len : length s' ≡ length s) (place : array_place s ≡ 0x30)
+    (numbers : array_count s ≡ 3)
     (past : 0x38 ≤ b) (inside : b < 1024) (within : b % 512 < 510) (same : (k : ℕ) → k ≢ b → get_or s' k 0 ≡ get_or s k 0) where
   front : (k : ℕ) → k < 0x38 → get_or s' k 0 ≡ get_or s k 0
   front k l = same k (λ e. omega (arith, e, l, past))
@@ -43,7 +44,8 @@ module _ (s s' : List ℕ) (b : ℕ) (all : length s ≡ 1024) (len : length s' 
     | inr out ↦ get_or_past (opened_of s') k 0 (omega (arith, out, length-opened_of s', len, all))
         ∙ sym (get_or_past (opened_of s) k 0 (omega (arith, out, length-opened_of s, all)))
     | inl lt ↦ elim (cases_lt (k % 512) 510) [
-      | inl low ↦ opened_of-within s' k (omega (arith, lt, len, all)) low ∙ same k ne ∙ sym (opened_of-within s k (omega (arith, lt, all)) low)
+      | inl low ↦ opened_of-within s' k (omega (arith, lt, len, all)) low ∙ same k ne
+          ∙ sym (opened_of-within s k (omega (arith, lt, all)) low)
       | inr end ↦
           let j' = pair_place s' (k / 512) + (k % 512 - 510) in
           let j = pair_place s (k / 512) + (k % 512 - 510) in

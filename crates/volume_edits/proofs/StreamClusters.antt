@@ -1,5 +1,6 @@
 -- The clusters of a stream on a volume where no cluster has two owners: they are its own. And its value, once bytes were written.
-use Rattle.std.proofs.Common.{◌≡◌, ◌≢◌, ◌+◌, ◌-◌, ◌*◌, ◌/◌, ◌<◌, ◌≤◌, ℕ, Bool, true, false, cond, List, [], ◌++◌, length, map, take, drop, Option, Some, None, refl, sym, ap, subst, inl, inr, ◌∙◌, arith, get_or, ltb}
+use Rattle.std.proofs.Common.{◌≡◌, ◌≢◌, ◌+◌, ◌-◌, ◌*◌, ◌/◌, ◌<◌, ◌≤◌, ℕ, Bool, true, false, cond, List, [], ◌++◌, length, map, take, drop}
+use Rattle.std.proofs.Common.{Option, Some, None, refl, sym, ap, subst, inl, inr, ◌∙◌, arith, get_or, ltb}
 use mathlib.Core.Path.{fun_ext}
 use Rattle.std.specs.Prelude.{◌⊎◌, Contains, IsSome, IsSomeAnd, IsTrue, filter, find}
 use Rattle.std.specs.List.{range_with_len}
@@ -21,7 +22,8 @@ use Rattle.volume_def.specs.Files.{Part, content_extent, is_of, part_runs, parts
 use Rattle.volume_def.specs.OwnersClause.{MeetsOwners}
 use Rattle.volume_def.specs.StreamSize.{IsFirstExtent}
 use Rattle.volume_def.specs.Table.{TableLayout, cluster_bytes}
-use Rattle.volume_def.specs.Values.{IsPlain, first_part, first_vcn_of, holds_vcn, spot_at, spot_by, stored_byte, value_byte, value_of_parts, value_on}
+use Rattle.volume_def.specs.Values.{IsPlain, first_part, first_vcn_of, holds_vcn, spot_at, spot_by, stored_byte}
+use Rattle.volume_def.specs.Values.{value_byte, value_of_parts, value_on}
 use Rattle.volume_def.specs.VersionClause.{IsMirror}
 use Rattle.volume_def.specs.View.{VolumeView}
 use Rattle.volume_def.proofs.Codes.{part_code}
@@ -60,11 +62,13 @@ value-written old new f extents extent at bytes told s first below fits w =
     let whole : (f : ℕ → ℕ) → map f (range_with_len 0 extent.sizes.real)
     ≡ map f (range_with_len 0 at) ++ (map f (range_with_len at len) ++ map f (range_with_len (at + len) m)) = λ f.
     ap (λ n. map f (range_with_len 0 n)) all
-    ∙ sym (ap (λ xs. map f (range_with_len 0 at) ++ xs) (bytes-append f at (at + len) len m refl) ∙ bytes-append f 0 at at (len + m) zero) in
+    ∙ sym (ap (λ xs. map f (range_with_len 0 at) ++ xs) (bytes-append f at (at + len) len m refl)
+    ∙ bytes-append f 0 at at (len + m) zero) in
     let first_len : length (map was (range_with_len 0 at)) ≡ at = length-map-range_with_len was 0 at in
     let long : at + len + m ≡ extent.sizes.real = omega (arith, fits) in
     let none : 0 + (at + len) ≡ at + len = omega arith in
-    let split : map was (range_with_len 0 extent.sizes.real) ≡ map was (range_with_len 0 (at + len)) ++ map was (range_with_len (at + len) m) =
+    let split : map was (range_with_len 0 extent.sizes.real)
+    ≡ map was (range_with_len 0 (at + len)) ++ map was (range_with_len (at + len) m) =
     ap (λ n. map was (range_with_len 0 n)) (sym long) ∙ sym (bytes-append was 0 (at + len) (at + len) m none) in
     let old_value = value-bytes old.cluster size f extents extent s first in
     ap (λ (l : TableLayout). value_of_parts new.cluster (cluster_bytes l) extents) w.layout
@@ -74,7 +78,8 @@ value-written old new f extents extent at bytes told s first below fits w =
     ∙ ap (λ xs. map was (range_with_len 0 at) ++ (xs ++ map now (range_with_len (at + len) m))) (sym mid)
     ∙ ap (λ xs. map was (range_with_len 0 at) ++ (bytes ++ xs)) back
     ∙ ap (λ xs. xs ++ (bytes ++ map was (range_with_len (at + len) m)))
-    (sym (ap (take at) (whole was) ∙ take_at (map was (range_with_len 0 at)) (map was (range_with_len at len) ++ map was (range_with_len (at + len) m)) at first_len))
+    (sym (ap (take at) (whole was)
+    ∙ take_at (map was (range_with_len 0 at)) (map was (range_with_len at len) ++ map was (range_with_len (at + len) m)) at first_len))
     ∙ ap (λ xs. take at (map was (range_with_len 0 extent.sizes.real)) ++ (bytes ++ xs))
     (sym (ap (drop (at + len)) split ∙ drop_at (map was (range_with_len 0 (at + len))) (map was (range_with_len (at + len) m)) (at + len)
     (length-map-range_with_len was 0 (at + len))))
@@ -84,7 +89,8 @@ value-written old new f extents extent at bytes told s first below fits w =
 tell : (one two : Part) → (one ≡ two) ⊎ (one ≢ two)
 tell one two = elim (cases_Bool (same_code (part_code.code one) (part_code.code two))) [
   | inl same ↦ inl (part_code.inj one two (same_code-exact _ _ same))
-  | inr other ↦ inr (λ e. differ (subst (λ p. same_code (part_code.code one) (part_code.code p) ≡ true) e (same_code-itself (part_code.code one))) other)
+  | inr other ↦ inr
+      (λ e. differ (subst (λ p. same_code (part_code.code one) (part_code.code p) ≡ true) e (same_code-itself (part_code.code one))) other)
 ]
   where
     differ : {b : Bool} → b ≡ true → b ≡ false → ⊥
@@ -92,7 +98,8 @@ tell one two = elim (cases_Bool (same_code (part_code.code one) (part_code.code 
 
 -- the part that holds a cluster of a stream, where it lies somewhere
 holder : (extents : List Part) (vcn c : ℕ) (found : Option Part) → find (holds_vcn vcn) extents ≡ found → spot_by found vcn ≡ At c
-    → (part : Part) × Contains extents part × (first_vcn_of part.content ≤ vcn) × (spot_of (part_runs part) (vcn - first_vcn_of part.content) ≡ At c)
+    → (part : Part) × Contains extents part × (first_vcn_of part.content ≤ vcn)
+    × (spot_of (part_runs part) (vcn - first_vcn_of part.content) ≡ At c)
 holder extents vcn c None is at = cc
 holder extents vcn c (Some part) is at =
     let f = find-found (holds_vcn vcn) extents part is in
@@ -191,10 +198,13 @@ HasOwners-written old new spot at bytes w o =
     mirror : IsMirror new (parts_at new MFT_MIRROR DATA [])
     mirror =
         let same = records-written old new spot at bytes w in
-        let its : parts_at new MFT_MIRROR DATA [] ≡ parts_at old MFT_MIRROR DATA [] = ap (λ r. filter (is_of DATA []) (parts r MFT_MIRROR)) same in
+        let its : parts_at new MFT_MIRROR DATA [] ≡ parts_at old MFT_MIRROR DATA [] =
+        ap (λ r. filter (is_of DATA []) (parts r MFT_MIRROR)) same in
         record {
           plain = subst IsPlain (sym its) o.mirror.plain;
           extent = subst (λ all. IsSomeAnd (first_part all) (λ part. IsSome (content_extent part.content))) (sym its) o.mirror.extent;
-          placed = subst (λ (l : TableLayout). (k : ℕ) → k * cluster_bytes l < 4096 → spot_at (parts_at new MFT_MIRROR DATA []) k ≡ At (l.mirror + k))
-              (sym w.layout) (subst (λ all. (k : ℕ) → k * cluster_bytes old.layout < 4096 → spot_at all k ≡ At (old.layout.mirror + k)) (sym its) o.mirror.placed);
+          placed = subst (λ (l : TableLayout). (k : ℕ) → k * cluster_bytes l < 4096
+              → spot_at (parts_at new MFT_MIRROR DATA []) k ≡ At (l.mirror + k))
+              (sym w.layout) (subst (λ all. (k : ℕ) → k * cluster_bytes old.layout < 4096 → spot_at all k ≡ At (old.layout.mirror + k))
+              (sym its) o.mirror.placed);
         }

@@ -1,5 +1,6 @@
 -- The part of file 0 that holds the table, of a sound volume whose contents are told.
-use Rattle.std.proofs.Common.{◌≡◌, ◌+◌, ◌-◌, ◌*◌, ◌/◌, ◌%◌, ◌<◌, ◌≤◌, ℕ, zero, suc, Bool, true, false, cond, List, [], ◌∷◌, ◌++◌, length, get_or, Option, Some, None, refl, sym, ap, subst, inl, inr, ◌∙◌, arith}
+use Rattle.std.proofs.Common.{◌≡◌, ◌+◌, ◌-◌, ◌*◌, ◌/◌, ◌%◌, ◌<◌, ◌≤◌, ℕ, zero, suc, Bool, true, false, cond, List, [], ◌∷◌, ◌++◌, length}
+use Rattle.std.proofs.Common.{get_or, Option, Some, None, refl, sym, ap, subst, inl, inr, ◌∙◌, arith}
 use Rattle.std.specs.Prelude.{Contains, IfSome, IsSomeAnd, IsTrue, filter, is_none, nat_lt, option_map, replicate, unwrap_or}
 use Rattle.std.proofs.lemmas.Bool.{and_parts, cases_lt, eqb-true, lt-ltb}
 use Rattle.std.proofs.lemmas.List.{nil_from_length}
@@ -14,7 +15,8 @@ use Rattle.ntfs_def.specs.declared.records.TheConstants.{MFT, ROOT}
 use Rattle.ntfs_def.proofs.RunsInLaws.{runs_in-means}
 use Rattle.volume_def.specs.AttributesClause.{IsRightRecord}
 use Rattle.volume_def.specs.Blocks.{block_of, cut_off, place_at, shown_at, table_place, table_sector}
-use Rattle.volume_def.specs.Files.{Record, content_of, content_runs, is_base, is_directory, part_of, part_runs, record_in, record_of, record_on, records_of}
+use Rattle.volume_def.specs.Files.{Record, content_of, content_runs, is_base, is_directory, part_of, part_runs, record_in}
+use Rattle.volume_def.specs.Files.{record_of, record_on, records_of}
 use Rattle.volume_def.specs.Sound.{IsSound, told_view}
 use Rattle.volume_def.specs.Sound.{Attributes, Links}
 use Rattle.volume_def.specs.Table.{MeetsTable, TableLayout, TellsTable, cluster_bytes, first_record, is_data_extent, two_sectors}
@@ -109,7 +111,8 @@ module _ (disk : ℕ → List ℕ) (boot : List ℕ) (layout : TableLayout) (mee
   pub root-written : 5120 < layout.initialized
   root-written = by (record_on view ROOT) refl ((sound Links ROOT).root refl)
     where
-      by : (o : Option Record) → record_on view ROOT ≡ o → IsSomeAnd o (λ r. IsTrue (is_base r) × IsTrue (is_directory r)) → 5120 < layout.initialized
+      by : (o : Option Record) → record_on view ROOT ≡ o → IsSomeAnd o (λ r. IsTrue (is_base r) × IsTrue (is_directory r))
+          → 5120 < layout.initialized
       by None e is = absurd is
       by (Some r) e is = let w = record-written disk layout ROOT r e in omega (arith, w)
 

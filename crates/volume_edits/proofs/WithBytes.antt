@@ -1,5 +1,6 @@
 -- Ranges of bytes of which some were written.
-use Rattle.std.proofs.Common.{◌≡◌, ◌+◌, ◌-◌, ◌≤◌, ℕ, List, ◌++◌, length, take, drop, sym, ap, ◌∙◌, arith, append_assoc, length-append, length-drop}
+use Rattle.std.proofs.Common.{◌≡◌, ◌+◌, ◌-◌, ◌≤◌, ℕ, List, ◌++◌, length, take, drop, sym, ap, ◌∙◌, arith}
+use Rattle.std.proofs.Common.{append_assoc, length-append, length-drop}
 use Rattle.std.specs.Prelude.{slice_range}
 use Rattle.std.proofs.lemmas.List.{drop-drop, drop_at, length-take-le, take_at}
 use Rattle.list_laws.proofs.PieceLaws.{take-drop-take}
@@ -12,7 +13,14 @@ module _ (old : List ℕ) (at : ℕ) (bytes : List ℕ) (fits : at + length byte
   pub length-with_bytes : length (with_bytes old at bytes) ≡ length old
   length-with_bytes =
       let behind = drop (at + length bytes) old in
-      omega (arith, length-append (take at old) (bytes ++ behind), length-append bytes behind, length-drop (at + length bytes) old, front, fits)
+      omega (
+        arith,
+        length-append (take at old) (bytes ++ behind),
+        length-append bytes behind,
+        length-drop (at + length bytes) old,
+        front,
+        fits,
+      )
 
   behind-written : drop (at + length bytes) (with_bytes old at bytes) ≡ drop (at + length bytes) old
   behind-written =
@@ -40,7 +48,8 @@ module _ (old : List ℕ) (at : ℕ) (bytes : List ℕ) (fits : at + length byte
       ∙ ap (λ k. take k (drop from old)) (sym many)
 
   -- bytes behind them
-  pub range-behind : (from n : ℕ) → at + length bytes ≤ from → slice_range (with_bytes old at bytes) from (from + n) ≡ slice_range old from (from + n)
+  pub range-behind : (from n : ℕ) → at + length bytes ≤ from
+      → slice_range (with_bytes old at bytes) from (from + n) ≡ slice_range old from (from + n)
   range-behind from n high =
       let more = from - (at + length bytes) in
       let place : at + length bytes + more ≡ from = omega (arith, high) in

@@ -1,5 +1,6 @@
 -- Bytes written into the clusters of a stream.
-use Rattle.std.specs.Prelude.{◌≡◌, ◌≢◌, ◌⊎◌, ℕ, ◌+◌, ◌-◌, ◌*◌, ◌/◌, ◌<◌, ◌≤◌, List, ◌++◌, take, drop, length, slice_index, IsTrue, Option, option_to_list}
+use Rattle.std.specs.Prelude.{◌≡◌, ◌≢◌, ◌⊎◌, ℕ, ◌+◌, ◌-◌, ◌*◌, ◌/◌, ◌<◌, ◌≤◌, List, ◌++◌, take, drop, length, slice_index}
+use Rattle.std.specs.Prelude.{IsTrue, Option, option_to_list}
 use Rattle.std.specs.List.{flat_map, range_with_len}
 use Rattle.ntfs_def.specs.declared.kinds.TheConstants.{DATA}
 use Rattle.ntfs_def.specs.declared.lengths.TheConstants.{INDEX_RECORD}

@@ -1,7 +1,10 @@
 -- What an attribute's header says, by the part that it is.
-use Rattle.std.proofs.Common.{◌≡◌, ℕ, zero, suc, ◌+◌, ◌-◌, ◌*◌, ◌^◌, ◌%◌, ◌<◌, ◌≤◌, Bool, true, false, cond, List, [], drop, length, get_or, inl, inr, refl, sym, ap, ◌∙◌, arith, rules, length-drop, length-take, get_or-drop, get_or-take}
+use Rattle.std.proofs.Common.{◌≡◌, ℕ, zero, suc, ◌+◌, ◌-◌, ◌*◌, ◌^◌, ◌%◌, ◌<◌, ◌≤◌, Bool, true, false, cond, List, [], drop, length, get_or}
+use Rattle.std.proofs.Common.{inl, inr, refl, sym, ap, ◌∙◌, arith, rules, length-drop, length-take, get_or-drop, get_or-take}
 use Rattle.std.proofs.lemmas.Bool.{cases_Bool}
-use Rattle.ntfs_def.specs.Attribute.{Body, NonResident, Resident, attribute_at, attribute_kind, attribute_len, attribute_place, body_at, bytes_between, content_bytes, content_end, content_offset, extent_at, is_resident, name_bytes, name_units, value_len, value_offset}
+use Rattle.ntfs_def.specs.Attribute.{Body, NonResident, Resident, attribute_at, attribute_kind, attribute_len, attribute_place, body_at}
+use Rattle.ntfs_def.specs.Attribute.{bytes_between, content_bytes, content_end, content_offset, extent_at, is_resident, name_bytes}
+use Rattle.ntfs_def.specs.Attribute.{name_units, value_len, value_offset}
 use Rattle.ntfs_def.specs.Record.{first_place}
 use Rattle.ntfs_def.specs.Shape.{HasShape, IsWhole}
 use Rattle.volume_def.specs.Files.{Part, Value, content_of, part_of}

@@ -6,9 +6,11 @@ use Rattle.std.proofs.lemmas.List.Sums.{sum_by-cons}
 use Rattle.std.proofs.lemmas.List.Elements.{All-from_recursion}
 use Rattle.std.proofs.lemmas.Bool.{cases_eq, false≢true}
 use Rattle.std.proofs.lemmas.Bool.Decides.{nat_tests}
-use Rattle.ntfs_def.specs.declared.kinds.TheConstants.{BITMAP, DATA, FILE_NAME, INDEX_ALLOCATION, INDEX_ROOT, STANDARD_INFORMATION, VOLUME_INFORMATION, VOLUME_NAME}
+use Rattle.ntfs_def.specs.declared.kinds.TheConstants.{BITMAP, DATA, FILE_NAME, INDEX_ALLOCATION, INDEX_ROOT}
+use Rattle.ntfs_def.specs.declared.kinds.TheConstants.{STANDARD_INFORMATION, VOLUME_INFORMATION, VOLUME_NAME}
 use Rattle.ntfs_def.specs.FileName.{is_name_key}
-use Rattle.volume_def.specs.AttributesClause.{AscendsFrom, IsRightPart, IsRightRecord, IsStandard, MeetsAttributes, is_kept_resident, is_standard, times_id}
+use Rattle.volume_def.specs.AttributesClause.{AscendsFrom, IsRightPart, IsRightRecord, IsStandard, MeetsAttributes}
+use Rattle.volume_def.specs.AttributesClause.{is_kept_resident, is_standard, times_id}
 use Rattle.volume_def.specs.Files.{Content, Part, Record, Value, content_value}
 use Rattle.volume_format.specs.Plan.{Plan, name_part, name_value, planned_records, standard_part}
 use Rattle.record_bytes.specs.AttributeBytes.{part}

@@ -6,7 +6,9 @@ use Rattle.std.proofs.lemmas.Bool.{and_from, le-leb, lt-ltb}
 use Rattle.vol_bytes.specs.Field.{SameOutside, u16_at, u64_at}
 use Rattle.vol_bytes.proofs.FieldLaws.{u16_at-same, u64_at-same}
 use Rattle.index_node.proofs.LayOutLaws.{range_same}
-use Rattle.ntfs_def.specs.Boot.{boot_cluster_bytes, boot_failing, cluster_count, cluster_sectors, has_cluster_sectors, has_end_mark, has_index_size, has_length, has_name, has_places, has_record_size, has_sector_size, is_cluster_sectors, is_ntfs, mft_cluster, mirror_cluster, spelled_size, total_sectors}
+use Rattle.ntfs_def.specs.Boot.{boot_cluster_bytes, boot_failing, cluster_count, cluster_sectors, has_cluster_sectors, has_end_mark}
+use Rattle.ntfs_def.specs.Boot.{has_index_size, has_length, has_name, has_places, has_record_size, has_sector_size, is_cluster_sectors}
+use Rattle.ntfs_def.specs.Boot.{is_ntfs, mft_cluster, mirror_cluster, spelled_size, total_sectors}
 use Rattle.ntfs_def.specs.First.{first_failing}
 use Rattle.volume_format.specs.declared.boot.TheConstants.{BARE}
 use Rattle.volume_format.specs.FitsPlan.{FitsPlan, IsClusterSize}
@@ -99,7 +101,8 @@ module _ (o : Options) (boot : List ℕ) (disk : ℕ) (geometry : HasGeometry o 
   count = ap (λ (n : ℕ). n / cluster_sectors boot) geometry.sectors_told ∙ ap (λ (n : ℕ). o.sectors / n) geometry.cluster
 
   table_below : table_at (plan_of o) < clusters_in o.sectors o.cluster
-  table_below = let some = clusters_needed-some (plan_of o) (size-some o.cluster range.cluster) table_len (omega arith) in omega (arith, fits.items)
+  table_below = let some = clusters_needed-some (plan_of o) (size-some o.cluster range.cluster) table_len (omega arith) in
+      omega (arith, fits.items)
 
   mirror_below : mirror_at (plan_of o) < clusters_in o.sectors o.cluster
   mirror_below =

@@ -10,7 +10,8 @@ use Rattle.volume_def.specs.Values.{value_of_parts, value_on}
 use Rattle.volume_def.specs.View.{VolumeView}
 use Rattle.volume_format.specs.NewVolume.{log_file, log_parts, security_name, security_parts}
 use Rattle.volume_format.specs.Items.{HoldsItem, case_byte, log_byte, ones_byte, record_bits_byte, security_byte}
-use Rattle.volume_format.specs.Plan.{Plan, bits_at, bits_len, case_at, case_len, items_end, log_at, log_len, mirror_at, mirror_len, security_at, security_len, stream_part, table_bits_at, table_bits_len}
+use Rattle.volume_format.specs.Plan.{Plan, bits_at, bits_len, case_at, case_len, items_end, log_at, log_len, mirror_at, mirror_len}
+use Rattle.volume_format.specs.Plan.{security_at, security_len, stream_part, table_bits_at, table_bits_len}
 use Rattle.volume_format.specs.Planned.{IsPlanned}
 use Rattle.volume_format.proofs.Records.{parts_at-planned}
 use Rattle.volume_format.proofs.Values.{value-stream}

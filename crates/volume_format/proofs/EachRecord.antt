@@ -2,7 +2,8 @@
 use Rattle.std.proofs.Common.{◌≡◌, ℕ, [], ◌∷◌, drop, Some, arith}
 use Rattle.std.specs.Prelude.{IfSome}
 use Rattle.volume_def.specs.Files.{Record}
-use Rattle.volume_format.specs.Plan.{Plan, record_0, record_1, record_10, record_11, record_2, record_24, record_25, record_3, record_4, record_5, record_6, record_7, record_8, record_9, record_in_list, record_list}
+use Rattle.volume_format.specs.Plan.{Plan, record_0, record_1, record_10, record_11, record_2, record_24, record_25, record_3, record_4}
+use Rattle.volume_format.specs.Plan.{record_5, record_6, record_7, record_8, record_9, record_in_list, record_list}
 use Rattle.volume_format.proofs.Listed.{EachFrom, EachFrom-record_in_list}
 
 pub record EachRecord (P : ℕ → Record → Type 0) (p : Plan) : Type 0 where

@@ -4,12 +4,15 @@ use Rattle.std.specs.Prelude.{All, IfSome, IsTrue, codes, filter}
 use Rattle.std.specs.List.{AllByRecursion}
 use Rattle.std.proofs.lemmas.List.Elements.{All-from_recursion}
 use Rattle.std.proofs.lemmas.Bool.{false≢true}
-use Rattle.ntfs_def.specs.declared.kinds.TheConstants.{BITMAP, DATA, FILE_NAME, INDEX_ALLOCATION, INDEX_ROOT, STANDARD_INFORMATION, VOLUME_INFORMATION, VOLUME_NAME}
+use Rattle.ntfs_def.specs.declared.kinds.TheConstants.{BITMAP, DATA, FILE_NAME, INDEX_ALLOCATION, INDEX_ROOT}
+use Rattle.ntfs_def.specs.declared.kinds.TheConstants.{STANDARD_INFORMATION, VOLUME_INFORMATION, VOLUME_NAME}
 use Rattle.ntfs_def.specs.declared.run_text.Run.{Run}
 use Rattle.ntfs_def.specs.Attribute.{ExtentHeader}
 use Rattle.volume_def.specs.ExtentsClause.{AreAttribute, FitExtents, MeetsExtents, has_sizes, last_vcn_of}
 use Rattle.volume_def.specs.Files.{Clusters, Part, Record, Value, all_covered, content_extent, is_base, is_of, parts, parts_like}
-use Rattle.volume_format.specs.Plan.{Plan, bad_part, clusters_needed, extent_for, name_part, planned_records, record_0, record_1, record_10, record_11, record_2, record_24, record_25, record_3, record_4, record_5, record_6, record_7, record_8, record_9, record_in_list, record_list, standard_part, stream_part}
+use Rattle.volume_format.specs.Plan.{Plan, bad_part, clusters_needed, extent_for, name_part, planned_records, record_0, record_1, record_10}
+use Rattle.volume_format.specs.Plan.{record_11, record_2, record_24, record_25, record_3, record_4, record_5, record_6, record_7, record_8}
+use Rattle.volume_format.specs.Plan.{record_9, record_in_list, record_list, standard_part, stream_part}
 use Rattle.record_bytes.specs.AttributeBytes.{part}
 use Rattle.volume_format.proofs.Needed.{clusters_needed-covers}
 use Rattle.volume_format.proofs.EachRecord.{EachRecord, at-listed}
@@ -52,7 +55,8 @@ module _ (p : Plan) (some : 0 < p.size) where
   -- a stream of the plan
   attribute-stream : (f n kind : ℕ) (name : List ℕ) (id at bytes : ℕ) → AreAttribute p.size f (stream_part p n kind name id at bytes ∷ [])
   attribute-stream f n kind name id at bytes =
-      attribute-run p.size f (stream_part p n kind name id at bytes) (extent_for p bytes) (record { len = clusters_needed p bytes; lcn = Some at })
+      attribute-run p.size f (stream_part p n kind name id at bytes) (extent_for p bytes)
+      (record { len = clusters_needed p bytes; lcn = Some at })
       refl refl refl
       (λ t e. record { initialized = omega arith; real = clusters_needed-covers p some bytes; allocated = λ u. refl })
 
@@ -112,5 +116,6 @@ module _ (p : Plan) (some : 0 < p.size) where
   }
 
   pub MeetsExtents-planned : (f : ℕ) → MeetsExtents (planned_records p) p.size f
-  MeetsExtents-planned f = IfSome-from (record_in_list (record_list p) f) (λ r. IsTrue (is_base r) → AreAttributes f (parts (planned_records p) f))
+  MeetsExtents-planned f = IfSome-from (record_in_list (record_list p) f)
+      (λ r. IsTrue (is_base r) → AreAttributes f (parts (planned_records p) f))
       (λ r is base. subst (AreAttributes f) (sym (parts-listed p f r is)) (at-listed Streams p streams f r is))

@@ -28,7 +28,8 @@ own_links f (Some r) = cond (is_base r) (map (link_by f r.header.sequence) (name
 
 module _ (p : Plan) where
   -- the names of a file are those of its record
-  pub names-planned : (f : ℕ) → f < record_count → names_of (planned_records p) f ≡ names_among (parts_or_none (record_in_list (record_list p) f))
+  pub names-planned : (f : ℕ) → f < record_count
+      → names_of (planned_records p) f ≡ names_among (parts_or_none (record_in_list (record_list p) f))
   unfolding names_of
   names-planned f lt = ap names_among (parts-planned p f lt)
 
@@ -46,7 +47,8 @@ module _ (p : Plan) where
 
   pub links-planned : links (planned_records p) ≡ planned_links
   unfolding links planned_links
-  links-planned = flat_map_agree _ _ 0 record_count (λ m low high. links-by m (record_in_list (record_list p) m) (names-planned m (omega arith)))
+  links-planned = flat_map_agree _ _ 0 record_count
+      (λ m low high. links-by m (record_in_list (record_list p) m) (names-planned m (omega arith)))
 
   root-counts : (q : Link → Bool) → count_by q (filter (is_in_directory 5) planned_links) ≡ count_by q (map link_of root_items)
   unfolding planned_links name_in units_at
@@ -69,5 +71,6 @@ names-shown p view is f =
     ap (λ records. names_of records f) (records_of-planned p view is)
     ∙ elim (cases_lt f record_count) [
       | inl inside ↦ names-planned p f inside
-      | inr past ↦ names-past p f past ∙ ap (λ o. names_among (parts_or_none o)) (sym (record_in_list-past (record_list p) f (omega (arith, past))))
+      | inr past ↦ names-past p f past
+          ∙ ap (λ o. names_among (parts_or_none o)) (sym (record_in_list-past (record_list p) f (omega (arith, past))))
     ]

@@ -1,5 +1,6 @@
 -- A root node without children holds its items, and a root node above one record those of the record.
-use Rattle.std.proofs.Common.{◌≡◌, ℕ, ◌+◌, ◌≤◌, ◌==◌, Bool, true, false, cond, List, [], ◌∷◌, map, Some, None, inl, inr, refl, sym, ap, ◌∙◌, arith}
+use Rattle.std.proofs.Common.{◌≡◌, ℕ, ◌+◌, ◌≤◌, ◌==◌, Bool, true, false, cond, List, [], ◌∷◌, map, Some, None, inl, inr, refl, sym}
+use Rattle.std.proofs.Common.{ap, ◌∙◌, arith}
 use Rattle.std.specs.Prelude.{All, IsTrue}
 use Rattle.std.proofs.lemmas.Bool.{cases_eq, ne_eqb}
 use Rattle.vol_bytes.specs.Field.{u32_at}
@@ -71,7 +72,8 @@ pub root-walk : root_items ≡ spread_items 1 root_spread
 root-walk = refl
 
 -- An index whose only part is the value of its root, which is a node without children.
-unfoldable pub HasIndex-leaf : (form : NodeForm) (rule : KeyRule) (view : VolumeView) (index : IndexParts) (value : List ℕ) (items : List Item)
+unfoldable pub HasIndex-leaf : (form : NodeForm) (rule : KeyRule) (view : VolumeView) (index : IndexParts)
+    (value : List ℕ) (items : List Item)
     → map (λ part. content_value part.content) index.root ≡ Some value ∷ [] → index.records ≡ [] → index.bits ≡ []
     → u32_at value 0x04 ≡ rule.collation → u32_at value 0x08 ≡ INDEX_RECORD → short_node form value ≡ Some (leaf items)
     → All (λ item. IsTrue (rule.valid item.key)) items → Ascends rule.order items → HasIndex form rule view index items

@@ -7,7 +7,8 @@ use Rattle.ntfs_def.specs.FileName.{name_in}
 use Rattle.ntfs_def.specs.Units.{units_at}
 use Rattle.volume_def.specs.FileNames.{names_among}
 use Rattle.volume_def.specs.Files.{Record, is_base, is_directory}
-use Rattle.volume_def.specs.IndexesClause.{IsDirectoryIndex, MeetsIndexes, MeetsViewIndex, StandsInExtend, hash_rule, id_rule, is_in_extend, word_rule}
+use Rattle.volume_def.specs.IndexesClause.{IsDirectoryIndex, MeetsIndexes, MeetsViewIndex, StandsInExtend, hash_rule}
+use Rattle.volume_def.specs.IndexesClause.{id_rule, is_in_extend, word_rule}
 use Rattle.volume_def.specs.View.{VolumeView}
 use Rattle.volume_format.specs.Plan.{Plan, record_in_list, record_list}
 use Rattle.volume_format.specs.Planned.{IsPlanned}

@@ -2,7 +2,8 @@
 use Rattle.std.proofs.Common.{ℕ, ◌≤◌, List, arith}
 use Rattle.std.specs.Prelude.{slice_index}
 use Rattle.volume_format.specs.Items.{log_byte, ones_byte, record_bits_byte}
-use Rattle.volume_format.specs.Plan.{Plan, bits_at, bits_len, boot_len, case_at, items_end, log_at, log_len, mirror_at, mirror_len, table_at, table_bits_at, table_bits_len, table_len}
+use Rattle.volume_format.specs.Plan.{Plan, bits_at, bits_len, boot_len, case_at, items_end, log_at, log_len, mirror_at, mirror_len}
+use Rattle.volume_format.specs.Plan.{table_at, table_bits_at, table_bits_len, table_len}
 use Rattle.volume_format.specs.Written.{FirstStand, NextStand, SameOutsideClusters}
 use Rattle.volume_format.proofs.Kept.{Stands-kept}
 

@@ -42,7 +42,8 @@ module _ (p : Plan) (few : p.clusters ≤ 2 ^ 26) where
   }
 
   pub MeetsLimits-planned : (f : ℕ) → MeetsLimits (planned_records p) f
-  MeetsLimits-planned f = IfSome-from (record_in_list (record_list p) f) (λ r. IsTrue (is_base r) → All (IsInLimits f) (parts (planned_records p) f))
+  MeetsLimits-planned f = IfSome-from (record_in_list (record_list p) f)
+      (λ r. IsTrue (is_base r) → All (IsInLimits f) (parts (planned_records p) f))
       (λ r is base.
       subst (All (IsInLimits f)) (sym (parts-listed p f r is))
       (All-from_recursion (IsInLimits f) r.parts (at-listed AreInLimits p limits f r is)))

@@ -68,7 +68,8 @@ module _ (p : Plan) where
   }
 
   -- the names of a file are those of its record
-  pub names_of-planned : (f : ℕ) (r : Record) → record_in_list (record_list p) f ≡ Some r → names_of (planned_records p) f ≡ names_among r.parts
+  pub names_of-planned : (f : ℕ) (r : Record) → record_in_list (record_list p) f ≡ Some r
+      → names_of (planned_records p) f ≡ names_among r.parts
   unfolding names_of
   names_of-planned f r e = ap names_among (parts-listed p f r e)
 

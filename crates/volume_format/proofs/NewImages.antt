@@ -1,5 +1,6 @@
 -- A disk on which the items of a new volume stand is a new volume.
-use Rattle.std.proofs.Common.{◌≡◌, ℕ, ◌+◌, ◌*◌, ◌/◌, ◌<◌, ◌≤◌, List, [], ◌∷◌, length, None, Some, inl, inr, refl, sym, ap, subst, ◌∙◌, arith}
+use Rattle.std.proofs.Common.{◌≡◌, ℕ, ◌+◌, ◌*◌, ◌/◌, ◌<◌, ◌≤◌, List, [], ◌∷◌, length, None, Some, inl, inr, refl, sym, ap}
+use Rattle.std.proofs.Common.{subst, ◌∙◌, arith}
 use Rattle.std.specs.Prelude.{slice_index, IsTrue}
 use Rattle.std.proofs.lemmas.List.{take_all}
 use Rattle.vol_disk.specs.Contents.{sector_in}
@@ -15,7 +16,8 @@ use Rattle.volume_format.specs.Items.{HoldsItem}
 use Rattle.volume_format.specs.Made.{AreMade, IsTable, block_in}
 use Rattle.volume_format.specs.NewBoot.{HasGeometry}
 use Rattle.volume_format.specs.Options.{AreInRange, Options, plan_of}
-use Rattle.volume_format.specs.Plan.{Plan, boot_len, clusters_needed, mirror_at, mirror_len, record_count, record_in_list, record_list, table_at, table_len}
+use Rattle.volume_format.specs.Plan.{Plan, boot_len, clusters_needed, mirror_at, mirror_len, record_count, record_in_list}
+use Rattle.volume_format.specs.Plan.{record_list, table_at, table_len}
 use Rattle.volume_format.specs.Planned.{IsPlanned, IsRootRecord}
 use Rattle.volume_format.specs.StoredRecord.{IsStoredRecord}
 use Rattle.volume_format.specs.Written.{ItemsStand, Stands, sectors_per}
@@ -49,7 +51,8 @@ module _ (p : Plan) (disk : ℕ → List ℕ) (boot table root : List ℕ) (fits
   enough : (len : ℕ) → len ≤ 512 * (clusters_needed p len * sectors_per p)
   enough len =
       let covers = clusters_needed-covers p some len in
-      let same : clusters_needed p len * (512 * sectors_per p) ≡ clusters_needed p len * p.size = ap (λ (n : ℕ). clusters_needed p len * n) whole in
+      let same : clusters_needed p len * (512 * sectors_per p) ≡ clusters_needed p len * p.size =
+      ap (λ (n : ℕ). clusters_needed p len * n) whole in
       omega arith
 
   holds : (at len : ℕ) (rule : ℕ → ℕ) → Stands disk p at len rule → HoldsItem (cluster_of disk (new_layout p)) p.size at len rule
@@ -113,7 +116,8 @@ module _ (p : Plan) (disk : ℕ → List ℕ) (boot table root : List ℕ) (fits
       zero = is_table.blocks 0 (omega arith)
 
       record_0 : first_record disk boot ≡ block_in table 0
-      record_0 = ap (λ (n : ℕ). two_sectors disk (n * cluster_sectors boot)) mft ∙ ap (λ (n : ℕ). two_sectors disk (table_at p * n)) per ∙ first
+      record_0 = ap (λ (n : ℕ). two_sectors disk (n * cluster_sectors boot)) mft
+          ∙ ap (λ (n : ℕ). two_sectors disk (table_at p * n)) per ∙ first
 
       used : IsTrue (is_in_use (block_in table 0))
       used = in_use-planned 0 _ _ zero.means

@@ -7,7 +7,8 @@ use Rattle.volume_def.specs.LimitsClause.{MeetsLimits}
 use Rattle.volume_def.specs.LinksClause.{MeetsLinks}
 use Rattle.volume_def.specs.OwnersClause.{MeetsOwners, times_owned}
 use Rattle.volume_def.specs.ReferencesClause.{MeetsReferences}
-use Rattle.volume_def.specs.Sound.{Attributes, CaseTable, ClusterBits, Extents, Limits, Links, Lists, Mirror, MirrorPlace, Owners, RecordBits, References, Shape, Version}
+use Rattle.volume_def.specs.Sound.{Attributes, CaseTable, ClusterBits, Extents, Limits, Links, Lists, Mirror, MirrorPlace, Owners}
+use Rattle.volume_def.specs.Sound.{RecordBits, References, Shape, Version}
 use Rattle.volume_def.specs.VersionClause.{IsClean}
 use Rattle.volume_def.specs.View.{VolumeView}
 use Rattle.volume_format.specs.NewVolume.{HoldsOfNew, OfNewVolumes, OwnsItems}

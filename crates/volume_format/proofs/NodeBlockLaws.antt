@@ -1,5 +1,6 @@
 -- The index record of a new volume's root.
-use Rattle.std.proofs.Common.{◌≡◌, ℕ, ◌+◌, ◌%◌, ◌<◌, ◌≤◌, ◌==◌, ◌&&◌, Bool, true, false, cond, List, [], ◌∷◌, ◌++◌, length, Some, None, inl, inr, get_or, refl, sym, ap, subst, ◌∙◌, arith, rules}
+use Rattle.std.proofs.Common.{◌≡◌, ℕ, ◌+◌, ◌%◌, ◌<◌, ◌≤◌, ◌==◌, ◌&&◌, Bool, true, false, cond, List, [], ◌∷◌, ◌++◌, length, Some, None, inl}
+use Rattle.std.proofs.Common.{inr, get_or, refl, sym, ap, subst, ◌∙◌, arith, rules}
 use Rattle.std.specs.Prelude.{codes, nat_eq, nat_le, option_and_then, replicate, slice_index, if◌then◌else◌}
 use Rattle.std.specs.List.{starts_with, list_all}
 use Rattle.std.proofs.lemmas.Bool.{cases_Bool, false≢true, le-leb}
@@ -9,7 +10,9 @@ use Rattle.vol_bytes.proofs.FieldLaws.{u16_at-same, u32_at-same, u64_at-same}
 use Rattle.ntfs_def.specs.declared.index.NodeForm.TheVariants.{Names}
 use Rattle.ntfs_def.specs.First.{first_failing}
 use Rattle.ntfs_def.specs.Fixup.{HasArray, Seals, array_end, array_place, next_number, opened_of, sequence_number}
-use Rattle.ntfs_def.specs.Node.{Node, Whole, are_short, are_short_from, entries_end, entry_len, first_entry, first_offset, has_children, is_entry, is_last_entry, most_len, node_header, node_header_failing, node_in, room_end, scan_from, short_node, whole_of}
+use Rattle.ntfs_def.specs.Node.{Node, Whole, are_short, are_short_from, entries_end, entry_len, first_entry, first_offset, has_children}
+use Rattle.ntfs_def.specs.Node.{is_entry, is_last_entry, most_len, node_header, node_header_failing, node_in, room_end}
+use Rattle.ntfs_def.specs.Node.{scan_from, short_node, whole_of}
 use Rattle.ntfs_def.proofs.FixupLaws.{length-opened_of}
 use Rattle.ntfs_def.proofs.SameLaws.{starts-same}
 use Rattle.index_node.specs.LayOut.{AreEntries, HoldsPieces, KeepsHeader, node_listed, room_len, total_len}
@@ -66,7 +69,8 @@ module _ (used : ℕ) (node : List ℕ) (low : 0x28 ≤ used) (high : used ≤ 0
       six_right 0x00 0x00 0x04 (node_header node) (node_header node + 0x04) (node_header node + 0x08)
       (le-leb (node_header node + 16) (length node) (omega (arith, header, is.long)))
       (ap (λ n. if n == 4096 then starts_with nat_eq node (codes "INDX") else true) is.long ∙ is.mark)
-      (ap (λ n. if n == 4096 then nat_le 0x28 (array_place node) && nat_le (array_end node) (first_entry node) else true) is.long ∙ array-right)
+      (ap (λ n. if n == 4096 then nat_le 0x28 (array_place node) && nat_le (array_end node) (first_entry node) else true) is.long
+      ∙ array-right)
       (le-leb 16 (first_offset node) (omega (arith, offset-is)))
       (le-leb (entries_end node) (room_end node) (omega (arith, end-is, room-is)))
       (le-leb (room_end node) (length node) (omega (arith, room-is, is.long)))
@@ -104,7 +108,8 @@ short_head entry entries t = elim (cases_Bool (is_short entry)) [
 short_tail : (entry : List ℕ) (entries : List (List ℕ)) → list_all is_short (entry ∷ entries) ≡ true → list_all is_short entries ≡ true
 short_tail entry entries t = rw (short_head entry entries t) at t
 
-len-held : (node entry : List ℕ) (at : ℕ) (rest : List (List ℕ)) → HoldsPieces node at (entry ∷ rest) → ShortEntry entry → entry_len node at ≡ length entry
+len-held : (node entry : List ℕ) (at : ℕ) (rest : List (List ℕ)) → HoldsPieces node at (entry ∷ rest) → ShortEntry entry
+    → entry_len node at ≡ length entry
 len-held node entry at rest holds short =
     sym (u16_within node at (length entry) 8 (omega (arith, short.least))) ∙ ap (λ xs. u16_at xs 8) holds.0 ∙ short.len
 
@@ -136,7 +141,8 @@ scan_all node end most at (entry ∷ entries) are few holds inside =
     scan_listed Names node false end entry entries most at (omega arith) are holds inside
 
 -- Such a block with the entries of the root says them.
-module _ (node : List ℕ) (is : IsNodeBlock root_used node) (leaf : has_children node ≡ false) (holds : HoldsPieces node 0x40 root_entries) where
+module _ (node : List ℕ) (is : IsNodeBlock root_used node) (leaf : has_children node ≡ false)
+    (holds : HoldsPieces node 0x40 root_entries) where
   node_in-root : node_in Names node ≡ Some (node_listed false root_entries)
   node_in-root =
       ap whole_of (scan_node-is Names node false (0x18 + root_used) 0x40 (Whole (node_listed false root_entries))
@@ -192,7 +198,8 @@ sequence_number-laid old new stored e keeps seals =
     let place : array_place new ≡ array_place old = u16_at-same old new 0x04 (λ k from to. keeps.before k (omega (arith, header))) in
     let same : sequence_number new ≡ sequence_number old =
     ap (u16_at new) place
-    ∙ u16_at-same old new (array_place old) (λ k from to. keeps.between k (omega (arith, header, is.place)) (omega (arith, first, is.place))) in
+    ∙ u16_at-same old new (array_place old)
+    (λ k from to. keeps.between k (omega (arith, header, is.place)) (omega (arith, first, is.place))) in
     seals.number ∙ ap next_number (same ∙ sequence_number-blank old e)
 
 -- a block in which entries were laid out
@@ -206,7 +213,8 @@ IsNodeBlock-laid old new total is keeps end =
     let ends : entries_end new ≡ 0x18 + u32_at new 0x1C = ap (λ h. h + u32_at new (h + 0x04)) (node_header-is new long) in
     record {
       long = long;
-      mark = starts-same (codes "INDX") old new (omega (arith, is.long)) (omega (arith, long)) (λ k lt. keeps.before k (omega (arith, header)))
+      mark = starts-same (codes "INDX") old new (omega (arith, is.long)) (omega (arith, long))
+          (λ k lt. keeps.before k (omega (arith, header)))
           ∙ is.mark;
       place = u16_at-same old new 0x04 (λ k from to. keeps.before k (omega (arith, header))) ∙ is.place;
       count = u16_at-same old new 0x06 (λ k from to. keeps.before k (omega (arith, header))) ∙ is.count;
@@ -227,7 +235,8 @@ module _ (built stored : List ℕ) (is : IsNodeBlock root_used built) (seals : S
   opened-is : IsNodeBlock root_used (opened_of stored)
   opened-is = record {
     long = long-opened;
-    mark = starts-same (codes "INDX") built (opened_of stored) (omega (arith, is.long)) (omega (arith, long-opened)) (λ k lt. below k (omega arith))
+    mark = starts-same (codes "INDX") built (opened_of stored) (omega (arith, is.long)) (omega (arith, long-opened))
+        (λ k lt. below k (omega arith))
         ∙ is.mark;
     place = u16_at-same built (opened_of stored) 0x04 (λ k from to. below k (omega arith)) ∙ is.place;
     count = u16_at-same built (opened_of stored) 0x06 (λ k from to. below k (omega arith)) ∙ is.count;

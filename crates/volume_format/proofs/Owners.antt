@@ -8,7 +8,9 @@ use Rattle.ntfs_def.specs.declared.run_text.Run.{Run}
 use Rattle.volume_def.specs.Coverage.{has_cluster}
 use Rattle.volume_def.specs.Files.{is_of, part_runs}
 use Rattle.volume_def.specs.OwnersClause.{MeetsOwners, all_runs, boot_runs, times_owned}
-use Rattle.volume_format.specs.Plan.{Plan, bits_at, bits_len, boot_len, case_at, case_len, clusters_needed, items_end, log_at, log_len, mirror_at, mirror_len, node_at, node_len, planned_records, security_at, security_len, table_at, table_bits_at, table_bits_len, table_len}
+use Rattle.volume_format.specs.Plan.{Plan, bits_at, bits_len, boot_len, case_at, case_len, clusters_needed, items_end, log_at, log_len}
+use Rattle.volume_format.specs.Plan.{mirror_at, mirror_len, node_at, node_len, planned_records, security_at, security_len, table_at}
+use Rattle.volume_format.specs.Plan.{table_bits_at, table_bits_len, table_len}
 use Rattle.volume_format.proofs.Needed.{clusters_needed-some}
 use Rattle.volume_format.proofs.Bases.{parts-planned}
 
@@ -53,8 +55,10 @@ hits-next c m n = subst (λ k. hits c 0 m + hits c k n ≡ hits c 0 (m + n)) (om
 -- all runs, in the order of the records
 abbrev item_runs : Plan → List Run
 item_runs p =
-    run (table_at p) (clusters_needed p table_len) ∷ run (table_bits_at p) (clusters_needed p table_bits_len) ∷ run (mirror_at p) (clusters_needed p mirror_len)
-    ∷ run (log_at p) (clusters_needed p log_len) ∷ run (node_at p) (clusters_needed p node_len) ∷ run (bits_at p) (clusters_needed p (bits_len p))
+    run (table_at p) (clusters_needed p table_len) ∷ run (table_bits_at p) (clusters_needed p table_bits_len)
+    ∷ run (mirror_at p) (clusters_needed p mirror_len)
+    ∷ run (log_at p) (clusters_needed p log_len) ∷ run (node_at p) (clusters_needed p node_len)
+    ∷ run (bits_at p) (clusters_needed p (bits_len p))
     ∷ run 0 (clusters_needed p boot_len) ∷ record { len = p.clusters; lcn = None } ∷ run (security_at p) (clusters_needed p security_len)
     ∷ run (case_at p) (clusters_needed p case_len) ∷ []
 
@@ -92,7 +96,11 @@ pub MeetsOwners-planned : (p : Plan) → 0 < p.size → items_end p ≤ p.cluste
 MeetsOwners-planned p some fit n = record {
   boot = λ e.
       let long = clusters_needed-some p some boot_len (omega arith) in
-      omega (arith, ap (count_by (has_cluster 0)) (boot_runs-planned p), hits-in 0 0 (clusters_needed p boot_len) (omega arith) (omega arith));
+      omega (
+        arith,
+        ap (count_by (has_cluster 0)) (boot_runs-planned p),
+        hits-in 0 0 (clusters_needed p boot_len) (omega arith) (omega arith),
+      );
   inside = λ le. times_owned-behind p n (omega (arith, fit, le));
   once = elim (cases_lt n (items_end p)) [
     | inl lt ↦ omega (arith, times_owned-below p n lt)

@@ -1,5 +1,6 @@
 -- What a new volume reads as.
-use Rattle.std.proofs.Common.{◌≡◌, ◌≢◌, ℕ, ◌*◌, ◌/◌, ◌<◌, ◌==◌, ◌&&◌, not, true, false, List, [], ◌∷◌, length, map, Some, None, refl, sym, ap, subst, ◌∙◌, arith, if◌then◌else◌}
+use Rattle.std.proofs.Common.{◌≡◌, ◌≢◌, ℕ, ◌*◌, ◌/◌, ◌<◌, ◌==◌, ◌&&◌, not, true, false, List, [], ◌∷◌, length, map, Some, None, refl, sym}
+use Rattle.std.proofs.Common.{ap, subst, ◌∙◌, arith, if◌then◌else◌}
 use Rattle.std.specs.Prelude.{codes, option_and_then}
 use Rattle.std.specs.List.{list_all}
 use Rattle.vol_disk.specs.Contents.{sector_in}
@@ -18,7 +19,8 @@ use Rattle.volume_def.specs.View.{VolumeView}
 use Rattle.tree_model.specs.Facts.{ReadsAs}
 use Rattle.tree_model.specs.Hidden.{is_hidden, is_system}
 use Rattle.list_laws.specs.Ordered.{in_order}
-use Rattle.tree_model.specs.Reading.{all_links, is_hidden_link, link_by, links_that, node_at, node_by, node_on, others_of, point_of, read, streams_of}
+use Rattle.tree_model.specs.Reading.{all_links, is_hidden_link, link_by, links_that, node_at, node_by, node_on, others_of}
+use Rattle.tree_model.specs.Reading.{point_of, read, streams_of}
 use Rattle.tree_model.specs.Tree.{link_above}
 use Rattle.tree_model.proofs.OnlyRootLaws.{OnlyRoot, below-hidden, hidden-links, root-nodes, root-shown, shown-links, system-hidden}
 use Rattle.volume_format.specs.Formatted.{IsNewVolume}

@@ -58,5 +58,6 @@ module _ (p : Plan) (view : VolumeView) (is : IsPlanned p view) (some : 0 < p.si
     bit = λ low high.
         let inside : n < record_count = omega (arith, is.count, high) in
         rw (bit-value n inside, record_on-planned p view is n)
-        (by_use (is_some (record_in_list (record_list p) n)) _ (range-tested (agrees p) 0 record_count n (bits-agree p) (omega arith) (omega arith)));
+        (by_use (is_some (record_in_list (record_list p) n)) _
+        (range-tested (agrees p) 0 record_count n (bits-agree p) (omega arith) (omega arith)));
   }

@@ -1,9 +1,11 @@
 -- A new volume meets all clauses.
-use Rattle.volume_def.specs.Sound.{Attributes, CaseTable, ClusterBits, Extents, Indexes, IsSound, Limits, Links, Lists, Mirror, MirrorPlace, Owners, RecordBits, References, Shape, Version}
+use Rattle.volume_def.specs.Sound.{Attributes, CaseTable, ClusterBits, Extents, Indexes, IsSound, Limits, Links, Lists, Mirror, MirrorPlace}
+use Rattle.volume_def.specs.Sound.{Owners, RecordBits, References, Shape, Version}
 use Rattle.volume_format.specs.NewVolume.{OfNewVolumes}
 use Rattle.volume_format.proofs.Fits.{size-some}
 use Rattle.volume_format.proofs.IndexesClause.{MeetsIndexes-planned}
-use Rattle.volume_format.proofs.NewVolumes.{attributes, case_table, cluster_bits, extents, limits, links, lists, mirror, mirror_place, owners, record_bits, references, shape, version}
+use Rattle.volume_format.proofs.NewVolumes.{attributes, case_table, cluster_bits, extents, limits, links, lists, mirror, mirror_place}
+use Rattle.volume_format.proofs.NewVolumes.{owners, record_bits, references, shape, version}
 
 pub sound : OfNewVolumes (λ p view. IsSound view)
 sound p view fits is Shape = shape p view fits is

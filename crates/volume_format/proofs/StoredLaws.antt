@@ -1,5 +1,6 @@
 -- A record that was made and sealed is stored, and zeros are no record.
-use Rattle.std.proofs.Common.{◌≡◌, ℕ, ◌+◌, ◌%◌, ◌<◌, ◌==◌, ◌&&◌, ◌||◌, Bool, true, false, cond, List, ◌∷◌, map, length, Option, Some, None, inl, inr, refl, sym, ap, subst, ◌∙◌, arith, rules}
+use Rattle.std.proofs.Common.{◌≡◌, ℕ, ◌+◌, ◌%◌, ◌<◌, ◌==◌, ◌&&◌, ◌||◌, Bool, true, false, cond, List, ◌∷◌, map, length, Option, Some, None}
+use Rattle.std.proofs.Common.{inl, inr, refl, sym, ap, subst, ◌∙◌, arith, rules}
 use Rattle.std.specs.Prelude.{codes, nat_eq, nat_lt, is_none, replicate}
 use Rattle.std.specs.List.{starts_with, range_with_len, list_all}
 use Rattle.std.proofs.lemmas.Bool.{cases_lt, false≢true}
@@ -63,7 +64,8 @@ module _ (n : ℕ) (planned : Option Record) (built stored : List ℕ) (is : IsN
       let l = long-stored in
       let front = λ (k : ℕ) (lt : k < 4). opened_of-within stored k (omega (arith, l)) (omega arith) in
       let flags = u16_at-same stored (opened_of stored) 0x16 (λ k from to. opened_of-within stored k (omega (arith, l)) (omega arith)) in
-      sym (ap (λ t. t && (record_flags (opened_of stored) % 2 == 1)) (starts-same (codes "FILE") stored (opened_of stored) (omega (arith, l)) (omega (arith, l, length-opened_of stored)) front)
+      sym (ap (λ t. t && (record_flags (opened_of stored) % 2 == 1))
+      (starts-same (codes "FILE") stored (opened_of stored) (omega (arith, l)) (omega (arith, l, length-opened_of stored)) front)
       ∙ ap (λ f. starts_with nat_eq stored (codes "FILE") && (f % 2 == 1)) flags)
       ∙ is_in_use-same built (opened_of stored) _ is.shape same ∙ is.in_use
 
@@ -126,6 +128,7 @@ none-of (Some r) b e h = absurd (false≢true (rw e at h))
 
 pub record_in_list-free : (p : Plan) (n : ℕ) → is_planned n ≡ false → record_in_list (record_list p) n ≡ None
 record_in_list-free p n free = elim (cases_lt n 26) [
-  | inl lt ↦ none-of (record_in_list (record_list p) n) (is_planned n) free (range-tested (agrees p) 0 26 n (all-agree p) (omega arith) (omega arith))
+  | inl lt ↦ none-of (record_in_list (record_list p) n) (is_planned n) free
+      (range-tested (agrees p) 0 26 n (all-agree p) (omega arith) (omega arith))
   | inr past ↦ record_in_list-past (record_list p) n past
 ]

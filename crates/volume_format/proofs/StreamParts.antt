@@ -23,8 +23,10 @@ content-same : (a b l m real initialized : ℕ) (n k : ℕ) (lcn : Option ℕ) �
     ≡ one_run (record { allocated = b; real = real; initialized = initialized; first = 0; last = m }) (record { len = k; lcn = lcn })
 content-same a b l m real initialized n k lcn e f g = cc
 
-pub content-item : (p : Plan) (at bytes allocated len : ℕ) → allocated ≡ clusters_needed p bytes * p.size → len ≡ clusters_needed p bytes → 0 < len
-    → one_run (record { allocated = allocated; real = bytes; initialized = bytes; first = 0; last = len - 1 }) (record { len = len; lcn = Some at })
+pub content-item : (p : Plan) (at bytes allocated len : ℕ) → allocated ≡ clusters_needed p bytes * p.size
+    → len ≡ clusters_needed p bytes → 0 < len
+    → one_run (record { allocated = allocated; real = bytes; initialized = bytes; first = 0; last = len - 1 })
+    (record { len = len; lcn = Some at })
     ≡ stream_content p at bytes
 content-item p at bytes allocated len e f some =
     content-same _ _ _ _ bytes bytes _ _ (Some at) e (last_vcn-some len some ∙ ap last_vcn_of f) f
@@ -33,7 +35,8 @@ pub content-bad : (p : Plan) (all len : ℕ) → all ≡ p.clusters * p.size →
     → one_run (record { allocated = all; real = all; initialized = 0; first = 0; last = len - 1 }) (record { len = len; lcn = None })
     ≡ (bad_part p).content
 content-bad p all len e f some =
-    ap (λ k. one_run (record { allocated = all; real = k; initialized = 0; first = 0; last = len - 1 }) (record { len = len; lcn = None })) e
+    ap (λ k. one_run (record { allocated = all; real = k; initialized = 0; first = 0; last = len - 1 }) (record { len = len; lcn = None }))
+    e
     ∙ content-same _ _ _ _ (p.clusters * p.size) 0 _ _ None e (last_vcn-some len some ∙ ap last_vcn_of f) f
 
 -- a record of a file with one stream, whose place and bytes are told otherwise

@@ -1,5 +1,6 @@
 -- The first record of a new volume tells where the table lies.
-use Rattle.std.proofs.Common.{◌≡◌, ◌≢◌, ℕ, ◌+◌, ◌*◌, ◌<◌, ◌≤◌, Bool, true, false, cond, List, [], ◌∷◌, map, length, filter, Some, None, inl, inr, refl, sym, ap, subst, ◌∙◌, arith}
+use Rattle.std.proofs.Common.{◌≡◌, ◌≢◌, ℕ, ◌+◌, ◌*◌, ◌<◌, ◌≤◌, Bool, true, false, cond, List, [], ◌∷◌, map, length, filter, Some, None, inl}
+use Rattle.std.proofs.Common.{inr, refl, sym, ap, subst, ◌∙◌, arith}
 use Rattle.std.specs.Prelude.{All, codes, ◌==◌, ◌&&◌, is_some}
 use Rattle.std.proofs.lemmas.Bool.{cases_lt}
 use Rattle.std.proofs.lemmas.List.Elements.{All-from_recursion}
@@ -17,7 +18,8 @@ use Rattle.ntfs_def.proofs.SpotLaws.{spot_of-first}
 use Rattle.volume_def.specs.Files.{Clusters, Part, Record, content_of, part_of, record_in, record_of}
 use Rattle.volume_def.specs.Table.{FitTable, IsOnVolume, IsTableData, LieFromMft, TellsTable, cluster_bytes, is_data_extent}
 use Rattle.volume_format.specs.FitsPlan.{FitsPlan}
-use Rattle.volume_format.specs.Plan.{Plan, clusters_needed, extent_for, name_part, record_0, standard_part, stream_part, table_at, table_bits_at, table_bits_len, table_len}
+use Rattle.volume_format.specs.Plan.{Plan, clusters_needed, extent_for, name_part, record_0, standard_part, stream_part, table_at}
+use Rattle.volume_format.specs.Plan.{table_bits_at, table_bits_len, table_len}
 use Rattle.volume_format.specs.Written.{sectors_per}
 use Rattle.volume_format.proofs.Needed.{clusters_needed-covers}
 use Rattle.volume_format.proofs.NewBlocks.{new_layout}
@@ -152,7 +154,8 @@ module _ (p : Plan) (fits : FitsPlan p) (whole : 512 * sectors_per p ≡ p.size)
 
   fit : FitTable (extent_for p table_len).sizes (total_clusters (run ∷ []) * cluster_bytes (new_layout p))
   fit =
-      let same : clusters_needed p table_len * cluster_bytes (new_layout p) ≡ clusters_needed p table_len * p.size = ap (λ (n : ℕ). clusters_needed p table_len * n) whole in
+      let same : clusters_needed p table_len * cluster_bytes (new_layout p) ≡ clusters_needed p table_len * p.size =
+      ap (λ (n : ℕ). clusters_needed p table_len * n) whole in
       record {
         from_start = refl;
         covered = omega (arith, covers, same);

@@ -18,7 +18,8 @@ use Rattle.volume_def.specs.View.{VolumeView}
 use Rattle.volume_format.specs.Plan.{Plan}
 use Rattle.record_bytes.specs.AttributeBytes.{part}
 use Rattle.volume_format.specs.Planned.{IsPlanned}
-use Rattle.volume_format.proofs.AttributeParts.{kind-part, long-part, place-aligned, resident-part, unnamed-part, value-part, value_offset-bytes}
+use Rattle.volume_format.proofs.AttributeParts.{kind-part, long-part, place-aligned, resident-part}
+use Rattle.volume_format.proofs.AttributeParts.{unnamed-part, value-part, value_offset-bytes}
 use Rattle.volume_format.proofs.VolumeRecord.{in_use-volume, parts-volume}
 
 -- the value that tells the version

@@ -13,7 +13,8 @@ use Rattle.ntfs_def.specs.Units.{wide}
 use Rattle.volume_def.specs.Files.{content_value, is_of}
 use Rattle.volume_def.specs.IndexesClause.{HasIndex, KeyRule, hash_rule, id_rule, index_parts, word_rule}
 use Rattle.volume_def.specs.View.{VolumeView}
-use Rattle.volume_format.specs.Plan.{Plan, descriptor_hash, descriptor_header, descriptor_id, record_count, record_in_list, record_list, root_value}
+use Rattle.volume_format.specs.Plan.{Plan, descriptor_hash, descriptor_header, descriptor_id, record_count}
+use Rattle.volume_format.specs.Plan.{record_in_list, record_list, root_value}
 use Rattle.record_bytes.specs.Entries.{last_entry, view_entry}
 use Rattle.volume_format.specs.Planned.{IsPlanned}
 use Rattle.volume_format.specs.IndexItems.{hash_items, id_items}
@@ -27,7 +28,8 @@ use Rattle.list_laws.proofs.PieceLaws.{All-tested}
 module _ (p : Plan) (view : VolumeView) (is : IsPlanned p view) where
   -- A view index of a file, whose only part is a root without children.
   leaf-index : (rule : KeyRule) (f : ℕ) (name value : List ℕ) (items : List Item) → f < record_count
-      → map (λ part. content_value part.content) (filter (is_of INDEX_ROOT name) (parts_or_none (record_in_list (record_list p) f))) ≡ Some value ∷ []
+      → map (λ part. content_value part.content) (filter (is_of INDEX_ROOT name) (parts_or_none (record_in_list (record_list p) f)))
+      ≡ Some value ∷ []
       → filter (is_of INDEX_ALLOCATION name) (parts_or_none (record_in_list (record_list p) f)) ≡ []
       → filter (is_of BITMAP name) (parts_or_none (record_in_list (record_list p) f)) ≡ []
       → u32_at value 0x04 ≡ rule.collation → u32_at value 0x08 ≡ INDEX_RECORD → short_node View value ≡ Some (leaf items)

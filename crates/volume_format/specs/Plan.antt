@@ -1,8 +1,10 @@
 -- What a new volume is: where its items lie, and what its records say.
 -- Layout: the system's files as in the Linux-NTFS documentation, "System Files", and in Carrier, File System Forensic
 -- Analysis, chapters 11 and 12; their places on the volume and the values are this project's choice.
-use Rattle.std.specs.Prelude.{ℕ, ◌+◌, ◌-◌, ◌*◌, ◌/◌, ◌==◌, ◌||◌, nat_lt, Bool, List, [], ◌∷◌, ◌++◌, codes, length, replicate, slice_get, Option, Some, None, option_and_then}
-use Rattle.ntfs_def.specs.declared.kinds.TheConstants.{BITMAP, DATA, FILE_NAME, INDEX_ALLOCATION, INDEX_ROOT, STANDARD_INFORMATION, VOLUME_INFORMATION, VOLUME_NAME}
+use Rattle.std.specs.Prelude.{ℕ, ◌+◌, ◌-◌, ◌*◌, ◌/◌, ◌==◌, ◌||◌, nat_lt, Bool, List, [], ◌∷◌, ◌++◌, codes, length, replicate, slice_get}
+use Rattle.std.specs.Prelude.{Option, Some, None, option_and_then}
+use Rattle.ntfs_def.specs.declared.kinds.TheConstants.{BITMAP, DATA, FILE_NAME, INDEX_ALLOCATION, INDEX_ROOT}
+use Rattle.ntfs_def.specs.declared.kinds.TheConstants.{STANDARD_INFORMATION, VOLUME_INFORMATION, VOLUME_NAME}
 use Rattle.ntfs_def.specs.Attribute.{ExtentHeader}
 use Rattle.ntfs_def.specs.KeyOrder.{case_table_len}
 use Rattle.ntfs_def.specs.Units.{wide}
@@ -129,7 +131,13 @@ name_part n parent directory letters = part n FILE_NAME [] 1 (Value (name_value 
 -- the numbers of a stream of so many bytes, all of them written
 abbrev pub extent_for : Plan → ℕ → ExtentHeader
 extent_for p bytes = record {
-  sizes = record { allocated = clusters_needed p bytes * p.size; real = bytes; initialized = bytes; first = 0; last = last_vcn_of (clusters_needed p bytes) };
+  sizes = record {
+    allocated = clusters_needed p bytes * p.size;
+    real = bytes;
+    initialized = bytes;
+    first = 0;
+    last = last_vcn_of (clusters_needed p bytes);
+  };
   compressed = None;
 }
 
@@ -144,7 +152,13 @@ stream_part p n kind name id at bytes = part n kind name id (stream_content p at
 abbrev pub bad_part : Plan → Part
 bad_part p = part 8 DATA bad_name 3 (Clusters
     (record {
-      sizes = record { allocated = p.clusters * p.size; real = p.clusters * p.size; initialized = 0; first = 0; last = last_vcn_of p.clusters };
+      sizes = record {
+        allocated = p.clusters * p.size;
+        real = p.clusters * p.size;
+        initialized = 0;
+        first = 0;
+        last = last_vcn_of p.clusters;
+      };
       compressed = None;
     })
     (Some (record { len = p.clusters; lcn = None } ∷ [])))

@@ -12,7 +12,9 @@ use Rattle.volume_def.specs.Table.{IsWellFormed, cluster_bytes}
 use Rattle.volume_def.specs.View.{VolumeView}
 use Rattle.record_bytes.specs.NewRecord.{AreAligned}
 use Rattle.volume_format.specs.Items.{HoldsItem, case_byte, log_byte, ones_byte, record_bits_byte, security_byte}
-use Rattle.volume_format.specs.Plan.{Plan, bits_at, bits_len, case_at, case_len, clusters_needed, items_end, log_at, log_len, mirror_at, node_at, node_len, record_count, record_in_list, record_list, security_at, security_len, table_at, table_bits_at, table_bits_len, table_len}
+use Rattle.volume_format.specs.Plan.{Plan, bits_at, bits_len, case_at, case_len, clusters_needed, items_end, log_at, log_len, mirror_at}
+use Rattle.volume_format.specs.Plan.{node_at, node_len, record_count, record_in_list, record_list, security_at, security_len, table_at}
+use Rattle.volume_format.specs.Plan.{table_bits_at, table_bits_len, table_len}
 use Rattle.volume_format.specs.RootIndex.{root_entries}
 
 -- The index record of the root, as stored.

@@ -2,7 +2,9 @@
 use Rattle.std.specs.Prelude.{◌≡◌, ◌⊎◌, ℕ, ◌*◌, ◌/◌, ◌<◌, ◌≤◌, List, is_some, slice_index}
 use Rattle.vol_disk.specs.declared.Disk as disk
 use Rattle.volume_format.specs.Items.{StandsAt, case_byte, log_byte, ones_byte, record_bits_byte, security_byte}
-use Rattle.volume_format.specs.Plan.{Plan, bits_at, bits_len, boot_len, case_at, case_len, clusters_needed, items_end, log_at, log_len, mirror_at, mirror_len, node_at, node_len, security_at, security_len, table_at, table_bits_at, table_bits_len, table_len}
+use Rattle.volume_format.specs.Plan.{Plan, bits_at, bits_len, boot_len, case_at, case_len, clusters_needed, items_end, log_at, log_len}
+use Rattle.volume_format.specs.Plan.{mirror_at, mirror_len, node_at, node_len, security_at, security_len, table_at}
+use Rattle.volume_format.specs.Plan.{table_bits_at, table_bits_len, table_len}
 
 -- Sectors were written, and nothing was settled.
 pub record WritesOn {D : Type 0} (g : disk.Ghosts D) (old new : D) : Type 0 where

@@ -3,7 +3,8 @@ ghost use Rattle.std.specs.Prelude.{◌≡◌, ◌<◌, ◌≤◌, ◌^◌, ◌*
 ghost use Rattle.volume_def.specs.Blocks.{cluster_of};
 ghost use Rattle.volume_def.specs.BitmapClauses.{cluster_bits, record_bits};
 ghost use Rattle.volume_def.specs.CaseClause.{case_parts, volume_fold};
-ghost use Rattle.volume_def.specs.Sound.{Attributes, CaseTable, ClusterBits, Extents, IsSound, Limits, Links, Lists, Mirror, MirrorPlace, Owners, RecordBits, References, Shape, Version};
+ghost use Rattle.volume_def.specs.Sound.{Attributes, CaseTable, ClusterBits, Extents, IsSound, Limits, Links, Lists, Mirror, MirrorPlace};
+ghost use Rattle.volume_def.specs.Sound.{Owners, RecordBits, References, Shape, Version};
 ghost use Rattle.volume_def.specs.Table.{TableLayout, cluster_bytes};
 ghost use Rattle.volume_def.specs.VersionClause.{IsClean};
 ghost use Rattle.tree_model.specs.Reading.{read};

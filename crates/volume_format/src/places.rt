@@ -2,7 +2,9 @@
 ghost use Rattle.std.specs.Prelude.{◌≡◌, ◌≤◌, ◌<◌, ◌+◌, ◌*◌, ◌/◌, ◌^◌, ◌++◌, IfOk, length};
 ghost use Rattle.volume_format.specs.FitsPlan.{FitsPlan, IsClusterSize};
 ghost use Rattle.volume_format.specs.Options.{stored_units};
-ghost use Rattle.volume_format.specs.Plan.{bits_at, bits_len, boot_len, case_at, case_len, clusters_needed, items_end, log_at, log_len, mirror_at, mirror_len, node_at, node_len, security_at, security_len, table_at, table_bits_at, table_bits_len, table_len};
+ghost use Rattle.volume_format.specs.Plan.{bits_at, bits_len, boot_len, case_at, case_len, clusters_needed, items_end, log_at, log_len};
+ghost use Rattle.volume_format.specs.Plan.{mirror_at, mirror_len, node_at, node_len, security_at, security_len, table_at};
+ghost use Rattle.volume_format.specs.Plan.{table_bits_at, table_bits_len, table_len};
 
 use std::alloc::{AllocError, Global};
 use std::marker::Model;

@@ -10,7 +10,9 @@ ghost use Rattle.volume_def.specs.Files.{Value};
 ghost use Rattle.record_bytes.specs.AttributeBytes.{runs_at, part};
 ghost use Rattle.ntfs_def.specs.Rounded.{up_to_8};
 ghost use Rattle.record_bytes.specs.NewRecord.{AddsPart, IsNewRecord};
-ghost use Rattle.volume_format.specs.Plan.{stream_content, bad_part, file, is_planned, record_0, record_1, record_10, record_11, record_2, record_3, record_5, record_6, record_7, record_8, record_9, record_in_list, record_list, root_value, stream_part};
+ghost use Rattle.volume_format.specs.Plan.{stream_content, bad_part, file, is_planned, record_0, record_1, record_10, record_11, record_2};
+ghost use Rattle.volume_format.specs.Plan.{record_3, record_5, record_6, record_7, record_8, record_9, record_in_list};
+ghost use Rattle.volume_format.specs.Plan.{record_list, root_value, stream_part};
 ghost use Rattle.record_bytes.specs.Entries.{last_entry};
 
 use crate::Places;

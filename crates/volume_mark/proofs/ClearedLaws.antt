@@ -1,5 +1,6 @@
 -- The bytes with the mark cleared, and what a call leaves that failed.
-use Rattle.std.proofs.Common.{◌≡◌, ℕ, ◌+◌, ◌-◌, ◌*◌, ◌/◌, ◌%◌, ◌<◌, ◌==◌, ◌||◌, Bool, true, false, cond, List, length, map, get_or, Some, inl, inr, ap, subst, sym, refl, ◌∙◌, arith}
+use Rattle.std.proofs.Common.{◌≡◌, ℕ, ◌+◌, ◌-◌, ◌*◌, ◌/◌, ◌%◌, ◌<◌, ◌==◌, ◌||◌, Bool, true, false, cond, List, length, map, get_or, Some}
+use Rattle.std.proofs.Common.{inl, inr, ap, subst, sym, refl, ◌∙◌, arith}
 use Rattle.std.specs.Prelude.{min, slice_index}
 use Rattle.std.specs.List.{range_with_len}
 use Rattle.std.proofs.lemmas.List.{same_lists, length-set, length-map, get_or-map, get_or_default, get_or-set_same, get_or-set_other}
@@ -46,7 +47,8 @@ clears-to flag bytes = record {
   sectors = λ n.
       let disk = sector_in (Some bytes) in
       let long : length (sector_in (Some (cleared_bytes flag bytes)) n) ≡ length (disk n) =
-      length-sector_in (cleared_bytes flag bytes) n ∙ ap (λ l. min 512 (l - 512 * n)) (length-cleared flag bytes) ∙ sym (length-sector_in bytes n) in
+      length-sector_in (cleared_bytes flag bytes) n ∙ ap (λ l. min 512 (l - 512 * n)) (length-cleared flag bytes)
+      ∙ sym (length-sector_in bytes n) in
       same_lists _ _ (long ∙ sym (length-cleared_sector flag disk n)) (λ k d lt.
       let s = length-sector_in bytes n in
       let below : k < 512 = omega (arith, lt, long, s) in
@@ -92,7 +94,8 @@ unset-sector flag disk n home copy = by (n == flag.home) (n == flag.copy) refl r
     set-same : (bytes : List ℕ) → slice_index bytes flag.at % 2 ≡ 0 → without_bit bytes flag.at ≡ bytes
     set-same bytes z = same_lists _ _ (length-set bytes flag.at _) (λ k d lt. elim (cases_eq k flag.at) [
       | inl e ↦
-          let at : flag.at < length bytes = let l = length-set bytes flag.at (slice_index bytes flag.at - slice_index bytes flag.at % 2) in omega (arith, lt, l, e) in
+          let at : flag.at < length bytes = let l = length-set bytes flag.at (slice_index bytes flag.at - slice_index bytes flag.at % 2) in
+          omega (arith, lt, l, e) in
           let v : slice_index bytes flag.at - slice_index bytes flag.at % 2 ≡ slice_index bytes flag.at = omega (arith, z) in
           ap (λ j. get_or (without_bit bytes flag.at) j d) e ∙ get_or-set_same bytes flag.at _ d at ∙ v
           ∙ get_or_default bytes flag.at 0 d at ∙ ap (λ j. get_or bytes j d) (sym e)
@@ -108,5 +111,6 @@ pub closes-unset : (flag : Flag) (tree : Tree) (bytes : List ℕ) → IsAccepted
     → slice_index (sector_in (Some bytes) flag.home) flag.at % 2 ≡ 0 → slice_index (sector_in (Some bytes) flag.copy) flag.at % 2 ≡ 0
     → ClosesAs flag tree bytes
 closes-unset flag tree bytes accepted home copy cleared c =
-    let same : cleared ≡ bytes = same_sectors cleared bytes c.long (λ n. c.sectors n ∙ unset-sector flag (sector_in (Some bytes)) n home copy) in
+    let same : cleared ≡ bytes =
+    same_sectors cleared bytes c.long (λ n. c.sectors n ∙ unset-sector flag (sector_in (Some bytes)) n home copy) in
     subst (IsAcceptedAs tree) (sym same) accepted

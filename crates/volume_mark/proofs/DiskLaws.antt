@@ -1,10 +1,12 @@
 -- Bytes that agree but for the mark and the log: which sectors of the volume are as they were.
-use Rattle.std.proofs.Common.{◌≡◌, ◌≢◌, ◌+◌, ◌-◌, ◌*◌, ◌/◌, ◌%◌, ◌<◌, ◌≤◌, ◌==◌, ◌||◌, ℕ, false, cond, List, [], ◌∷◌, ◌++◌, length, get_or, take, Option, Some, None, refl, sym, ap, subst, inl, inr, ◌∙◌, arith, length-append, append-nil}
+use Rattle.std.proofs.Common.{◌≡◌, ◌≢◌, ◌+◌, ◌-◌, ◌*◌, ◌/◌, ◌%◌, ◌<◌, ◌≤◌, ◌==◌, ◌||◌, ℕ, false, cond, List, [], ◌∷◌, ◌++◌, length, get_or}
+use Rattle.std.proofs.Common.{take, Option, Some, None, refl, sym, ap, subst, inl, inr, ◌∙◌, arith, length-append, append-nil}
 use Rattle.std.specs.Prelude.{◌⊎◌, Contains, min, replicate}
 use Rattle.std.specs.List.{flat_map}
 use Rattle.std.proofs.lemmas.Bool.{cases_eq, cases_lt, eq-eqb, ne_eqb}
 use Rattle.std.proofs.lemmas.Nat.{div-mul-add}
-use Rattle.std.proofs.lemmas.List.{get_or-set_other, get_or-set_same, length-replicate, length-take, take_all, get_or-append-add, get_or_append_left}
+use Rattle.std.proofs.lemmas.List.{get_or-set_other, get_or-set_same, length-replicate, length-take}
+use Rattle.std.proofs.lemmas.List.{take_all, get_or-append-add, get_or_append_left}
 use Rattle.vol_disk.specs.Contents.{sector_in}
 use Rattle.ntfs_def.specs.Boot.{boot_sector}
 use Rattle.ntfs_def.specs.declared.kinds.TheConstants.{DATA}
@@ -46,7 +48,8 @@ pub zero-place : (per : ℕ) → 0 < per → 0 / per ≡ 0
 zero-place per some = let z : 0 * per + 0 ≡ 0 = omega arith in ap (λ x. x / per) (sym z) ∙ div-mul-add 0 per 0 some
 
 module _ (old : List ℕ) (layout : TableLayout) (has : HasLayout (sector_in (Some old)) (boot_sector old) (length old / 512) layout)
-    (sound : IsSound (told_view (sector_in (Some old)) layout)) (flag : Flag) (f : IsFlagOf (told_view (sector_in (Some old)) layout) flag) where
+    (sound : IsSound (told_view (sector_in (Some old)) layout)) (flag : Flag)
+    (f : IsFlagOf (told_view (sector_in (Some old)) layout) flag) where
   abbrev disk : ℕ → List ℕ
   disk = sector_in (Some old)
 
@@ -129,14 +132,16 @@ module _ (old : List ℕ) (layout : TableLayout) (has : HasLayout (sector_in (So
   pub upper-byte : (xs ys : List ℕ) → without_bit ys flag.at ≡ without_bit xs flag.at → flag.at < length xs → length ys ≡ length xs
       → get_or ys flag.at 0 - get_or ys flag.at 0 % 2 ≡ get_or xs flag.at 0 - get_or xs flag.at 0 % 2
   upper-byte xs ys e inside long =
-      sym (get_or-set_same ys flag.at _ 0 (omega (arith, inside, long))) ∙ ap (λ zs. get_or zs flag.at 0) e ∙ get_or-set_same xs flag.at _ 0 inside
+      sym (get_or-set_same ys flag.at _ 0 (omega (arith, inside, long))) ∙ ap (λ zs. get_or zs flag.at 0) e
+      ∙ get_or-set_same xs flag.at _ 0 inside
 
   -- Two pieces of 512 bytes, one behind the other.
   joined-low : (xs ys : List ℕ) (k : ℕ) → length xs ≡ 512 → k < 512 → get_or (xs ++ ys) k 0 ≡ get_or xs k 0
   joined-low xs ys k l lt = get_or_append_left xs ys 0 k (omega (arith, l, lt))
 
   joined-high : (xs ys : List ℕ) (k : ℕ) → length xs ≡ 512 → get_or (xs ++ ys) (512 + k) 0 ≡ get_or ys k 0
-  joined-high xs ys k l = ap (λ n. get_or (xs ++ ys) n 0) (let e : 512 + k ≡ length xs + k = omega (arith, l) in e) ∙ get_or-append-add xs ys k 0
+  joined-high xs ys k l = ap (λ n. get_or (xs ++ ys) n 0) (let e : 512 + k ≡ length xs + k = omega (arith, l) in e)
+      ∙ get_or-append-add xs ys k 0
 
   -- where the byte stands in them: in the first or in the second
   at-byte : (xs ys : List ℕ) → length xs ≡ 512 → get_or (xs ++ ys) f.byte 0 ≡ cond (kf == 6) (get_or xs flag.at 0) (get_or ys flag.at 0)
@@ -204,7 +209,8 @@ module _ (old : List ℕ) (layout : TableLayout) (has : HasLayout (sector_in (So
 
   -- the byte of the block is that of the flag's sector
   picked : (d : ℕ → List ℕ) → length (d flag.home) ≤ 512
-      → cond (kf == 6) (get_or (table_sector d layout 6) flag.at 0) (get_or (table_sector d layout 7) flag.at 0) ≡ get_or (d flag.home) flag.at 0
+      → cond (kf == 6) (get_or (table_sector d layout 6) flag.at 0) (get_or (table_sector d layout 7) flag.at 0)
+      ≡ get_or (d flag.home) flag.at 0
   picked d s = elim (cases_eq kf 6) [
     | inl e ↦ ap (λ t. cond t (get_or (table_sector d layout 6) flag.at 0) (get_or (table_sector d layout 7) flag.at 0)) (eq-eqb kf 6 e)
         ∙ ap (λ xs. get_or xs flag.at 0) (subst (λ m. table_sector d layout m ≡ d flag.home) e (home-shown d s))
@@ -235,12 +241,14 @@ module _ (old : List ℕ) (layout : TableLayout) (has : HasLayout (sector_in (So
       → cond (kf == 6) (get_or (d (mirror_sector layout + 6)) flag.at 0) (get_or (d (mirror_sector layout + 6 + 1)) flag.at 0)
       ≡ get_or (d flag.copy) flag.at 0
   copy-picked d = elim (cases_eq kf 6) [
-    | inl e ↦ ap (λ t. cond t (get_or (d (mirror_sector layout + 6)) flag.at 0) (get_or (d (mirror_sector layout + 6 + 1)) flag.at 0)) (eq-eqb kf 6 e)
+    | inl e ↦ ap (λ t. cond t (get_or (d (mirror_sector layout + 6)) flag.at 0) (get_or (d (mirror_sector layout + 6 + 1)) flag.at 0))
+        (eq-eqb kf 6 e)
         ∙ ap (λ n. get_or (d n) flag.at 0) (sym (copy-is ∙ ap (λ x. mirror_sector layout + x) e))
     | inr ne ↦
         let k = kf-small in
         let e : kf ≡ 7 = omega (arith, ne, k) in
-        ap (λ t. cond t (get_or (d (mirror_sector layout + 6)) flag.at 0) (get_or (d (mirror_sector layout + 6 + 1)) flag.at 0)) (ne_eqb kf 6 ne)
+        ap (λ t. cond t (get_or (d (mirror_sector layout + 6)) flag.at 0) (get_or (d (mirror_sector layout + 6 + 1)) flag.at 0))
+        (ne_eqb kf 6 ne)
         ∙ ap (λ n. get_or (d n) flag.at 0) (seventh ∙ sym (copy-is ∙ ap (λ x. mirror_sector layout + x) e))
   ]
 
@@ -348,7 +356,8 @@ module _ (old : List ℕ) (layout : TableLayout) (has : HasLayout (sector_in (So
     long-sector n = length-sector_in new n ∙ ap (λ l. min 512 (l - 512 * n)) a.long ∙ sym (length-sector_in old n)
 
     pub home-cleared : without_bit (disk' flag.home) flag.at ≡ without_bit (disk flag.home) flag.at
-    home-cleared = sym (at-flag flag disk' flag.home (inl refl)) ∙ a.sectors flag.home (table-log flag.home home-table) ∙ at-flag flag disk flag.home (inl refl)
+    home-cleared = sym (at-flag flag disk' flag.home (inl refl)) ∙ a.sectors flag.home (table-log flag.home home-table)
+        ∙ at-flag flag disk flag.home (inl refl)
 
     copy-cleared : without_bit (disk' flag.copy) flag.at ≡ without_bit (disk flag.copy) flag.at
     copy-cleared =
@@ -356,7 +365,8 @@ module _ (old : List ℕ) (layout : TableLayout) (has : HasLayout (sector_in (So
         ∙ a.sectors flag.copy (subst (λ n. ¬ (IsOfLog view n)) (sym copy-is) (mirror-log kf kf-small))
         ∙ at-flag flag disk flag.copy (inr refl)
 
-    sector-same : (k : ℕ) (place : Option ℕ) → table_place layout k ≡ place → k ≢ kf → shown_at disk' layout k place ≡ shown_at disk layout k place
+    sector-same : (k : ℕ) (place : Option ℕ) → table_place layout k ≡ place → k ≢ kf
+        → shown_at disk' layout k place ≡ shown_at disk layout k place
     sector-same k None at ne = refl
     sector-same k (Some p) at ne = ap (cut_off (layout.initialized - 512 * k)) (table-plain k p at ne)
 
@@ -364,10 +374,12 @@ module _ (old : List ℕ) (layout : TableLayout) (has : HasLayout (sector_in (So
     short' n = let l = long-sector n in let s = short n in omega (arith, l, s)
 
     -- of the sectors of the block
-    sector-bytes : (k : ℕ) → (j : ℕ) → (kf ≡ k → j ≢ flag.at) → get_or (table_sector disk' layout k) j 0 ≡ get_or (table_sector disk layout k) j 0
+    sector-bytes : (k : ℕ) → (j : ℕ) → (kf ≡ k → j ≢ flag.at)
+        → get_or (table_sector disk' layout k) j 0 ≡ get_or (table_sector disk layout k) j 0
     sector-bytes k j ne = elim (cases_eq kf k) [
       | inl e ↦ subst (λ m. get_or (table_sector disk' layout m) j 0 ≡ get_or (table_sector disk layout m) j 0) e
-          (ap (λ xs. get_or xs j 0) (home-shown disk' (short' flag.home)) ∙ other-byte (disk flag.home) (disk' flag.home) home-cleared j (ne e)
+          (ap (λ xs. get_or xs j 0) (home-shown disk' (short' flag.home))
+          ∙ other-byte (disk flag.home) (disk' flag.home) home-cleared j (ne e)
           ∙ sym (ap (λ xs. get_or xs j 0) (home-shown disk (short flag.home))))
       | inr off ↦ ap (λ xs. get_or xs j 0) (sector-same k (table_place layout k) refl (λ e. off (sym e)))
     ]
@@ -381,7 +393,8 @@ module _ (old : List ℕ) (layout : TableLayout) (has : HasLayout (sector_in (So
 
     pub block-same : (k : ℕ) → k ≢ f.byte → get_or (block_of disk' layout VOLUME) k 0 ≡ get_or (block_of disk layout VOLUME) k 0
     unfolding block_of
-    block-same = off-byte (table_sector disk layout 6) (table_sector disk' layout 6) (table_sector disk layout 7) (table_sector disk' layout 7)
+    block-same = off-byte (table_sector disk layout 6) (table_sector disk' layout 6) (table_sector disk layout 7)
+        (table_sector disk' layout 7)
         low-long (sector-long 6 ∙ low-long) (sector-bytes 6) (sector-bytes 7)
 
     pub block-long : length (block_of disk' layout VOLUME) ≡ length (block_of disk layout VOLUME)
@@ -400,7 +413,8 @@ module _ (old : List ℕ) (layout : TableLayout) (has : HasLayout (sector_in (So
         ∙ picked disk' (short' flag.home)
 
     -- THE SAME of the copy.
-    mirror-bytes : (k n : ℕ) → k < 8 → n ≡ mirror_sector layout + k → (j : ℕ) → (kf ≡ k → j ≢ flag.at) → get_or (disk' n) j 0 ≡ get_or (disk n) j 0
+    mirror-bytes : (k n : ℕ) → k < 8 → n ≡ mirror_sector layout + k → (j : ℕ) → (kf ≡ k → j ≢ flag.at)
+        → get_or (disk' n) j 0 ≡ get_or (disk n) j 0
     mirror-bytes k n few is j ne = elim (cases_eq kf k) [
       | inl e ↦
           let same : flag.copy ≡ n = copy-is ∙ ap (λ x. mirror_sector layout + x) e ∙ sym is in
@@ -440,7 +454,8 @@ module _ (old : List ℕ) (layout : TableLayout) (has : HasLayout (sector_in (So
         let y = upper-byte (disk flag.copy) (disk' flag.copy) copy-cleared (omega (arith, at, c)) (long-sector flag.copy) in
         let old_same = bits-same in
         let bits = a.alike in
-        copy-byte ∙ (let q : get_or (disk' flag.copy) flag.at 0 ≡ get_or (disk' flag.home) flag.at 0 = omega (arith, x, y, old_same, bits) in q) ∙ sym block-byte
+        copy-byte ∙ (let q : get_or (disk' flag.copy) flag.at 0 ≡ get_or (disk' flag.home) flag.at 0 =
+        omega (arith, x, y, old_same, bits) in q) ∙ sym block-byte
 
     -- so the flag's byte alone changed of record 3
     pub changes-flag : ChangesFlag view (block_of disk' layout) (copy_of disk' layout) f.byte

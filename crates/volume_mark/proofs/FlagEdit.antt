@@ -1,11 +1,15 @@
 -- The byte of the dirty flag changed, in record 3 and in its copy alike: an edit of which no clause asks.
-use Rattle.std.proofs.Common.{◌≡◌, ◌≢◌, ◌+◌, ◌-◌, ◌%◌, ◌<◌, ◌≤◌, ◌==◌, ◌&&◌, ℕ, zero, suc, Bool, true, false, cond, List, [], ◌∷◌, length, get_or, map, Option, Some, None, refl, sym, ap, subst, inl, inr, ◌∙◌, arith, rules}
-use Rattle.std.specs.Prelude.{◌⊎◌, All, IfSome, Contains, IsTrue, count_by, drop, filter, find, is_none, is_some, option_and_then, nat_le, nat_lt, option_map, slice_index, slice_range, take, unwrap_or}
+use Rattle.std.proofs.Common.{◌≡◌, ◌≢◌, ◌+◌, ◌-◌, ◌%◌, ◌<◌, ◌≤◌, ◌==◌, ◌&&◌, ℕ, zero, suc, Bool, true, false, cond, List, [], ◌∷◌, length}
+use Rattle.std.proofs.Common.{get_or, map, Option, Some, None, refl, sym, ap, subst, inl, inr, ◌∙◌, arith, rules}
+use Rattle.std.specs.Prelude.{◌⊎◌, All, IfSome, Contains, IsTrue, count_by, drop, filter, find, is_none, is_some, option_and_then, nat_le}
+use Rattle.std.specs.Prelude.{nat_lt, option_map, slice_index, slice_range, take, unwrap_or}
 use Rattle.std.proofs.lemmas.Bool.{and_from, and_parts, cases_eq, eq-eqb, eqb-true, lt-ltb, true≢false}
 use Rattle.std.proofs.lemmas.Slice.Eq.{bytes_eq-Decides}
 use Rattle.std.specs.List.{range_with_len}
 use Rattle.std.specs.Str.{bytes_eq}
-use Rattle.ntfs_def.specs.Attribute.{is_unnamed_value, name_end, name_offset, value_of, Attribute, attribute_at, attribute_kind, attribute_len, attribute_place, attributes, content_bytes, content_end, is_resident, value_len, value_offset}
+use Rattle.ntfs_def.specs.Attribute.{is_unnamed_value, name_end, name_offset, value_of, Attribute, attribute_at, attribute_kind}
+use Rattle.ntfs_def.specs.Attribute.{attribute_len, attribute_place, attributes, content_bytes, content_end}
+use Rattle.ntfs_def.specs.Attribute.{is_resident, value_len, value_offset}
 use Rattle.ntfs_def.specs.Fixup.{array_count, array_place, opened_of}
 use Rattle.ntfs_def.specs.Record.{Header, Reference, header_of, is_in_use, used_size}
 use Rattle.ntfs_def.specs.Shape.{HasShape, header_failing}
@@ -158,7 +162,8 @@ module _ (view : VolumeView) (flag : Flag) (f : IsFlagOf view flag) (sound : IsS
   copy-front k l =
       let some_bytes = copied.sealed.array.some in
       let whole = copied.sealed.array.whole in
-      sym (opened_of-within (view.copy VOLUME) k (omega (arith, l, some_bytes, whole)) (omega (arith, l))) ∙ copied.same.front k (omega (arith, l))
+      sym (opened_of-within (view.copy VOLUME) k (omega (arith, l, some_bytes, whole)) (omega (arith, l)))
+      ∙ copied.same.front k (omega (arith, l))
 
   pub array-m : (array_place (view.copy VOLUME) ≡ 0x30) × (array_count (view.copy VOLUME) ≡ 3)
   array-m = (
@@ -244,7 +249,8 @@ module _ (view : VolumeView) (flag : Flag) (f : IsFlagOf view flag) (sound : IsS
     count-same = length-attributes o' count shape'
 
     place' : attribute_place o' f.i ≡ f.place
-    place' = poke.place-poked o o' count f.i f.byte (f.byte + 1) shape f.inside resident low some high opened-len outside f.i (omega arith) ∙ at-is
+    place' = poke.place-poked o o' count f.i f.byte (f.byte + 1) shape f.inside resident low some high opened-len outside f.i (omega arith)
+        ∙ at-is
 
     pub used' : IsTrue (is_in_use s')
     used' =
@@ -255,7 +261,8 @@ module _ (view : VolumeView) (flag : Flag) (f : IsFlagOf view flag) (sound : IsS
 
     well' : IsWellFormed s'
     well' = record {
-      sealed = stored.sealed-poked s s' f.byte all c.block_long array-s.0 array-s.1 byte-far.0 byte-far.1 byte-far.2 c.block_same well.sealed;
+      sealed = stored.sealed-poked s s' f.byte all c.block_long array-s.0 array-s.1 byte-far.0 byte-far.1 byte-far.2
+          c.block_same well.sealed;
       shape = subst (HasShape o') (sym count-same) shape';
     }
 
@@ -267,10 +274,13 @@ module _ (view : VolumeView) (flag : Flag) (f : IsFlagOf view flag) (sound : IsS
     byte-before k l =
         let long = subst (λ p. 12 ≤ value_len o p) (sym at-is) f.version.long in
         let is = f.byte_is in
-        let near : at + value_offset o at + 0x0A ≡ f.byte = subst (λ p. p + value_offset o p + 0x0A ≡ f.byte) (sym at-is) (omega (arith, is)) in
-        poke.content-byte o o' count f.i f.byte (f.byte + 1) shape f.inside resident low some high opened-len outside k (omega (arith, l, long))
+        let near : at + value_offset o at + 0x0A ≡ f.byte =
+        subst (λ p. p + value_offset o p + 0x0A ≡ f.byte) (sym at-is) (omega (arith, is)) in
+        poke.content-byte o o' count f.i f.byte (f.byte + 1) shape f.inside resident low some high opened-len outside k
+        (omega (arith, l, long))
         ∙ outside (at + value_offset o at + k) (inl (omega (arith, l, near)))
-        ∙ sym (poke.content-byte-was o o' count f.i f.byte (f.byte + 1) shape f.inside resident low some high opened-len outside k (omega (arith, l, long)))
+        ∙ sym (poke.content-byte-was o o' count f.i f.byte (f.byte + 1) shape f.inside resident low some high opened-len outside k
+        (omega (arith, l, long)))
 
     version' : IsVersionAt o' at
     version' =
@@ -286,10 +296,13 @@ module _ (view : VolumeView) (flag : Flag) (f : IsFlagOf view flag) (sound : IsS
               let m = v.long in omega (arith, l, m);
           aligned = ap (λ x. (at + x) % 8) place-same ∙ v.aligned;
           version =
-              ap (λ n. cond (nat_le 12 n) (Some (record { major = get_or (content_bytes o' at) 8 0; minor = get_or (content_bytes o' at) 9 0 })) None) long-same
-              ∙ ap (λ x. cond (nat_le 12 (length (content_bytes o at))) (Some (record { major = x; minor = get_or (content_bytes o' at) 9 0 })) None)
+              ap (λ n. cond (nat_le 12 n)
+              (Some (record { major = get_or (content_bytes o' at) 8 0; minor = get_or (content_bytes o' at) 9 0 })) None) long-same
+              ∙ ap (λ x. cond (nat_le 12 (length (content_bytes o at)))
+              (Some (record { major = x; minor = get_or (content_bytes o' at) 9 0 })) None)
               (byte-before 8 (omega arith))
-              ∙ ap (λ x. cond (nat_le 12 (length (content_bytes o at))) (Some (record { major = get_or (content_bytes o at) 8 0; minor = x })) None)
+              ∙ ap (λ x. cond (nat_le 12 (length (content_bytes o at)))
+              (Some (record { major = get_or (content_bytes o at) 8 0; minor = x })) None)
               (byte-before 9 (omega arith))
               ∙ v.version;
         }
@@ -340,11 +353,13 @@ module _ (view : VolumeView) (flag : Flag) (f : IsFlagOf view flag) (sound : IsS
     m' = opened_of (copy VOLUME)
 
     copy-same : (k : ℕ) → k ≢ f.byte → get_or m' k 0 ≡ get_or m k 0
-    copy-same = stored.opened-poked (view.copy VOLUME) (copy VOLUME) f.byte copy-was c.copy_long array-m.0 array-m.1 byte-far.0 byte-far.1 byte-far.2 c.copy_same
+    copy-same = stored.opened-poked (view.copy VOLUME)
+        (copy VOLUME) f.byte copy-was c.copy_long array-m.0 array-m.1 byte-far.0 byte-far.1 byte-far.2 c.copy_same
 
     byte-alike : get_or m' f.byte 0 ≡ get_or o' f.byte 0
     byte-alike =
-        stored.opened-byte (view.copy VOLUME) (copy VOLUME) f.byte copy-was c.copy_long array-m.0 array-m.1 byte-far.0 byte-far.1 byte-far.2 c.copy_same
+        stored.opened-byte (view.copy VOLUME) (copy VOLUME)
+        f.byte copy-was c.copy_long array-m.0 array-m.1 byte-far.0 byte-far.1 byte-far.2 c.copy_same
         ∙ c.alike
         ∙ sym (stored.opened-byte s s' f.byte all c.block_long array-s.0 array-s.1 byte-far.0 byte-far.1 byte-far.2 c.block_same)
 
@@ -368,7 +383,8 @@ module _ (view : VolumeView) (flag : Flag) (f : IsFlagOf view flag) (sound : IsS
           used = used-m ∙ used-x ∙ sym used-o;
           front = λ k l. front-m k (omega (arith, l)) ∙ x.front k l ∙ sym (front' k (omega (arith, l)));
           middle = λ k a b.
-              front-m k (omega (arith, b, ap', place)) ∙ x.middle k a (omega (arith, b, ap')) ∙ sym (front' k (omega (arith, b, ap', place)));
+              front-m k (omega (arith, b, ap', place)) ∙ x.middle k a (omega (arith, b, ap'))
+              ∙ sym (front' k (omega (arith, b, ap', place)));
           behind = λ k a b. elim (cases_eq k f.byte) [
             | inl e ↦ ap (λ j. get_or m' j 0) e ∙ byte-alike ∙ ap (λ j. get_or o' j 0) (sym e)
             | inr ne ↦ copy-same k ne ∙ x.behind k (omega (arith, a, ap', ac')) (omega (arith, b, used-o)) ∙ sym (opened-same k ne)
@@ -377,7 +393,8 @@ module _ (view : VolumeView) (flag : Flag) (f : IsFlagOf view flag) (sound : IsS
 
     mirror' : MeetsMirror other VOLUME
     mirror' few u = record {
-      sealed = stored.sealed-poked (view.copy VOLUME) (copy VOLUME) f.byte copy-was c.copy_long array-m.0 array-m.1 byte-far.0 byte-far.1 byte-far.2
+      sealed = stored.sealed-poked (view.copy VOLUME)
+          (copy VOLUME) f.byte copy-was c.copy_long array-m.0 array-m.1 byte-far.0 byte-far.1 byte-far.2
           c.copy_same copied.sealed;
       same = mirrored;
     }
@@ -434,7 +451,8 @@ module _ (view : VolumeView) (flag : Flag) (f : IsFlagOf view flag) (sound : IsS
         let on : record_on view VOLUME ≡ Some (record_of VOLUME o) =
         ap (λ b. cond b (record_in VOLUME s) None) (lt-ltb VOLUME view.layout.count many) ∙ in-use VOLUME s used in
         let extents = (subst (λ x. IfSome x (λ r. IsTrue (is_base r)
-        → All (clauses.AreExtents view block copy VOLUME was now flag-edits size VOLUME (parts (records_of view) VOLUME)) (parts (records_of view) VOLUME)))
+        → All (clauses.AreExtents view block copy VOLUME was now flag-edits size VOLUME (parts (records_of view) VOLUME))
+        (parts (records_of view) VOLUME)))
         on (sound Extents VOLUME)) volume-base in
         let alone = (clauses.value-stands view block copy VOLUME was now flag-edits size VOLUME edit-file extents).1 in
         let alone' : filter (is_of VOLUME_INFORMATION []) (parts (records_of other) VOLUME) ≡ now ∷ [] =
@@ -473,8 +491,10 @@ module _ (view : VolumeView) (flag : Flag) (f : IsFlagOf view flag) (sound : IsS
         parts-least : parts_in ((records_of other).record_at VOLUME) VOLUME VOLUME ≡ map (part_of VOLUME) (attributes o')
             → count_by (is_of VOLUME_INFORMATION []) (map (part_of VOLUME) (attributes o'))
             ≤ count_by (is_of VOLUME_INFORMATION []) (parts (records_of other) VOLUME)
-        parts-least own = subst (λ xs. count_by (is_of VOLUME_INFORMATION []) xs ≤ count_by (is_of VOLUME_INFORMATION []) (parts (records_of other) VOLUME)) own
-            (count-least (λ k. parts_in ((records_of other).record_at k) k VOLUME) (is_of VOLUME_INFORMATION []) (range_with_len 0 view.layout.count)
+        parts-least own = subst (λ xs. count_by (is_of VOLUME_INFORMATION []) xs
+            ≤ count_by (is_of VOLUME_INFORMATION []) (parts (records_of other) VOLUME)) own
+            (count-least (λ k. parts_in ((records_of other).record_at k) k VOLUME) (is_of VOLUME_INFORMATION [])
+            (range_with_len 0 view.layout.count)
             VOLUME (Contains-range 0 view.layout.count VOLUME (omega arith) (omega (arith, many))))
 
     pub value-is : value_of (attribute_at o' at).body ≡ Some (content_bytes o' at)
@@ -490,7 +510,8 @@ module _ (view : VolumeView) (flag : Flag) (f : IsFlagOf view flag) (sound : IsS
       where
         pass : (a : Attribute) → a.kind ≡ VOLUME_INFORMATION → a.name ≡ [] → is_some (value_of a.body) ≡ true → is-version a ≡ true
         pass a k n v = and_from ((a.kind == VOLUME_INFORMATION) && (length a.name == 0)) (is_some (value_of a.body))
-            (and_from (a.kind == VOLUME_INFORMATION) (length a.name == 0) (eq-eqb a.kind VOLUME_INFORMATION k) (ap (λ (xs : List ℕ). length xs == 0) n)) v
+            (and_from (a.kind == VOLUME_INFORMATION) (length a.name == 0) (eq-eqb a.kind VOLUME_INFORMATION k)
+            (ap (λ (xs : List ℕ). length xs == 0) n)) v
 
     stands : Contains (attributes o') (attribute_at o' at)
     stands =
@@ -501,8 +522,10 @@ module _ (view : VolumeView) (flag : Flag) (f : IsFlagOf view flag) (sound : IsS
     flag-byte =
         let long = subst (λ p. 12 ≤ value_len o p) (sym at-is) f.version.long in
         let is = f.byte_is in
-        let near : at + value_offset o at + 0x0A ≡ f.byte = subst (λ p. p + value_offset o p + 0x0A ≡ f.byte) (sym at-is) (omega (arith, is)) in
-        poke.content-byte o o' count f.i f.byte (f.byte + 1) shape f.inside resident low some high opened-len outside 0x0A (omega (arith, long))
+        let near : at + value_offset o at + 0x0A ≡ f.byte =
+        subst (λ p. p + value_offset o p + 0x0A ≡ f.byte) (sym at-is) (omega (arith, is)) in
+        poke.content-byte o o' count f.i f.byte (f.byte + 1)
+        shape f.inside resident low some high opened-len outside 0x0A (omega (arith, long))
         ∙ ap (λ k. get_or o' k 0) near
         ∙ stored.opened-byte s s' f.byte all c.block_long array-s.0 array-s.1 byte-far.0 byte-far.1 byte-far.2 c.block_same
 
@@ -516,7 +539,8 @@ module _ (view : VolumeView) (flag : Flag) (f : IsFlagOf view flag) (sound : IsS
         bit-of : (v : List ℕ) (b : ℕ) → get_or v 0x0A 0 ≡ b → u16_at v 0x0A % 2 ≡ b % 2
         bit-of v b e = omega (arith, e)
 
-        dirty-of : (v : List ℕ) → find is-version (attributes o') ≡ Some (attribute_at o' at) → dirty_flag other ≡ Some (u16_at (content_bytes o' at) 0x0A % 2)
+        dirty-of : (v : List ℕ) → find is-version (attributes o') ≡ Some (attribute_at o' at)
+            → dirty_flag other ≡ Some (u16_at (content_bytes o' at) 0x0A % 2)
         dirty-of v found =
             ap (λ x. option_map (λ value. u16_at value 0x0A % 2) (option_and_then (λ (a : Attribute). value_of a.body) x)) found
             ∙ ap (option_map (λ value. u16_at value 0x0A % 2)) value-is

@@ -1,5 +1,6 @@
 -- THE LAW OF THE MARK AND THE LOG: bytes that differ in the bit of the mark and in the log alone are the same volume.
-use Rattle.std.proofs.Common.{◌≡◌, ◌≢◌, ◌+◌, ◌*◌, ◌/◌, ◌%◌, ◌<◌, ◌≤◌, ℕ, true, false, List, [], ◌∷◌, ◌++◌, length, Some, None, refl, sym, ap, subst, inl, inr, ◌∙◌, arith, true≢false}
+use Rattle.std.proofs.Common.{◌≡◌, ◌≢◌, ◌+◌, ◌*◌, ◌/◌, ◌%◌, ◌<◌, ◌≤◌, ℕ, true, false, List, [], ◌∷◌, ◌++◌, length, Some, None, refl, sym}
+use Rattle.std.proofs.Common.{ap, subst, inl, inr, ◌∙◌, arith, true≢false}
 use Rattle.std.specs.Prelude.{◌⊎◌, Contains, slice_index}
 use Rattle.vol_disk.specs.Contents.{sector_in}
 use Rattle.ntfs_def.specs.Boot.{boot_failing, boot_sector, cluster_sectors, mft_cluster}
@@ -34,7 +35,8 @@ use Rattle.volume_mark.proofs.DiskLaws as disks
 use Rattle.volume_mark.proofs.FlagEdit as edit
 use Rattle.volume_mark.proofs.SameViews as views
 
-boot-same : (old new : List ℕ) → length new ≡ length old → sector_in (Some new) 0 ≡ sector_in (Some old) 0 → boot_sector new ≡ boot_sector old
+boot-same : (old new : List ℕ) → length new ≡ length old → sector_in (Some new) 0 ≡ sector_in (Some old) 0
+    → boot_sector new ≡ boot_sector old
 unfolding sector_in
 boot-same [] [] long same = refl
 boot-same [] (x ∷ new) long same = absurd (omega (arith, long))
@@ -94,7 +96,8 @@ module _ (old : List ℕ) (layout : TableLayout) (has : HasLayout (sector_in (So
       disks.table-plain old layout has sound flag f new a 0 at (place 0 (omega arith) ∙ ap (λ (p : ℕ). Some p) z) (λ q. omega (arith, q)) in
       let high : disk' (at + 1) ≡ disk (at + 1) =
       disks.table-plain old layout has sound flag f new a 1 (at + 1) (place 1 (omega arith)) (λ q. omega (arith, q)) in
-      let both : disk' at ++ disk' (at + 1) ≡ disk at ++ disk (at + 1) = ap (λ xs. xs ++ disk' (at + 1)) low ∙ ap (λ xs. disk at ++ xs) high in
+      let both : disk' at ++ disk' (at + 1) ≡ disk at ++ disk (at + 1) =
+      ap (λ xs. xs ++ disk' (at + 1)) low ∙ ap (λ xs. disk at ++ xs) high in
       subst (λ p. disk' (mft_cluster (boot_sector old) * p) ++ disk' (mft_cluster (boot_sector old) * p + 1)
       ≡ disk (mft_cluster (boot_sector old) * p) ++ disk (mft_cluster (boot_sector old) * p + 1)) per_is both
 
@@ -151,7 +154,8 @@ module _ (old : List ℕ) (layout : TableLayout) (has : HasLayout (sector_in (So
   abbrev c : ChangesFlag view block' copy' f.byte
   c = disks.changes-flag old layout has sound flag f new a
 
-  abbrev e : EditsQuietly view block' copy' VOLUME (edit.was view flag f sound many block' copy' c) (edit.now view flag f sound many block' copy' c)
+  abbrev e : EditsQuietly view block' copy' VOLUME (edit.was view flag f sound many block' copy' c)
+      (edit.now view flag f sound many block' copy' c)
   e = edit.flag-edits view flag f sound many block' copy' c
 
   pub same-volume : IsSameVolume view flag new
@@ -221,4 +225,5 @@ unfolding same-volume
 flag-tells w flag bytes v sound f =
     let P : VolumeView → Type 0 = λ x. IsSound x → IsFlagOf x flag
     → dirty_flag x ≡ Some (slice_index (sector_in (Some bytes) flag.home) flag.at % 2) in
-    subst P (sym v.is) (λ s g. (same-volume bytes v.layout v.has s flag g bytes (agrees-itself bytes v.layout v.has s flag g)).dirty) sound f
+    subst P (sym v.is) (λ s g. (same-volume bytes v.layout v.has s flag g bytes (agrees-itself bytes v.layout v.has s flag g)).dirty)
+    sound f

@@ -20,7 +20,9 @@ use Rattle.list_laws.proofs.MemberLaws.{Contains-from_filter, map_agree}
 use Rattle.volume_def.proofs.ValueLaws.{spot_at-owned, value-frame}
 use Rattle.tree_model.specs.Hidden.{is_hidden, is_system}
 use Rattle.list_laws.specs.Ordered.{in_order}
-use Rattle.tree_model.specs.Reading.{begins_other, begins_stream, content_at, is_packed_part, is_hidden_link, node_at, node_by, node_on, other_above, other_at, others_of, point_by, point_of, read, standard_flags, standard_of, stream_at, streams_of, tree_nodes, all_links}
+use Rattle.tree_model.specs.Reading.{begins_other, begins_stream, content_at, is_packed_part, is_hidden_link, node_at, node_by, node_on}
+use Rattle.tree_model.specs.Reading.{other_above, other_at, others_of, point_by, point_of, read, standard_flags, standard_of, stream_at}
+use Rattle.tree_model.specs.Reading.{streams_of, tree_nodes, all_links}
 use Rattle.ntfs_def.specs.StandardInformation.{standard_security, standard_times}
 use Rattle.tree_model.specs.Streams.{stream_above}
 use Rattle.tree_model.specs.Tree.{link_above}

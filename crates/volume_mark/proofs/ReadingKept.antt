@@ -1,5 +1,6 @@
 -- What a volume reads as where a value was rewritten of which no clause asks: a file's times, flags and security id, or nothing.
-use Rattle.std.proofs.Common.{◌≡◌, ◌≢◌, ◌==◌, ◌&&◌, ◌||◌, ℕ, zero, suc, Bool, true, false, cond, List, [], ◌∷◌, map, not, Option, Some, None, refl, sym, ap, subst, inl, inr, ◌∙◌, arith}
+use Rattle.std.proofs.Common.{◌≡◌, ◌≢◌, ◌==◌, ◌&&◌, ◌||◌, ℕ, zero, suc, Bool, true, false, cond, List, [], ◌∷◌, map, not, Option, Some}
+use Rattle.std.proofs.Common.{None, refl, sym, ap, subst, inl, inr, ◌∙◌, arith}
 use Rattle.std.specs.Prelude.{All, Contains, IfSome, IsTrue, filter, find, is_none, option_and_then, option_map, unwrap_or}
 use Rattle.std.specs.FinMap as finmap
 use Rattle.std.specs.List.{filter_map, list_any, range_with_len}
@@ -12,8 +13,8 @@ use Rattle.ntfs_def.specs.declared.kinds.TheConstants.{DATA, REPARSE_POINT, STAN
 use Rattle.ntfs_def.specs.declared.records.TheConstants.{ROOT, VOLUME}
 use Rattle.volume_def.specs.CaseClause.{volume_fold}
 use Rattle.volume_def.specs.FileNames.{names_of}
-use Rattle.volume_def.specs.Files.{Part, Record, Records, content_value, file_of, is_base, is_directory, is_of, parts, parts_like, record_on, records_of}
-use Rattle.volume_def.specs.Files.{Value}
+use Rattle.volume_def.specs.Files.{Part, Record, Records, content_value, file_of, is_base, is_directory, is_of, parts, parts_like}
+use Rattle.volume_def.specs.Files.{record_on, records_of, Value}
 use Rattle.volume_def.specs.Sound.{IsSound}
 use Rattle.volume_def.specs.Sound.{Extents}
 use Rattle.volume_def.specs.Table.{cluster_bytes}
@@ -25,7 +26,9 @@ use Rattle.list_laws.proofs.MemberLaws.{Contains-from_filter, Contains-head, map
 use Rattle.volume_def.proofs.RecordLaws.{parts-other}
 use Rattle.tree_model.specs.Hidden.{is_hidden, is_system, leads_to_system}
 use Rattle.list_laws.specs.Ordered.{in_order}
-use Rattle.tree_model.specs.Reading.{all_links, begins_other, begins_stream, content_at, is_hidden_link, is_told_elsewhere, link_by, links_that, node_at, node_by, node_on, other_above, other_at, others_of, point_by, point_of, read, shown_content, standard_flags, standard_of, stream_at, streams_of, tree_nodes}
+use Rattle.tree_model.specs.Reading.{all_links, begins_other, begins_stream, content_at, is_hidden_link, is_told_elsewhere, link_by}
+use Rattle.tree_model.specs.Reading.{links_that, node_at, node_by, node_on, other_above, other_at, others_of, point_by, point_of, read}
+use Rattle.tree_model.specs.Reading.{shown_content, standard_flags, standard_of, stream_at, streams_of, tree_nodes}
 use Rattle.ntfs_def.specs.StandardInformation.{standard_security, standard_times}
 use Rattle.tree_model.specs.Streams.{stream_above}
 use Rattle.tree_model.specs.Tree.{Tree, link_above}
@@ -75,7 +78,8 @@ module _ (view : VolumeView) (block copy : ℕ → List ℕ) (n : ℕ) (was now 
   -- The parts of a type of which clauses ask, of file f.
   like-kept : (f : ℕ) (part : Part) → was.kind ≢ part.kind → parts_like part (parts news f) ≡ parts_like part (parts olds f)
   like-kept f part ne = parts_of.filter-kept view block copy n was now e (is_of part.kind part.name) f
-      (parts_of.fails-was view block copy n was now e part.kind part.name ne) (parts_of.fails-now view block copy n was now e part.kind part.name ne)
+      (parts_of.fails-was view block copy n was now e part.kind part.name ne)
+      (parts_of.fails-now view block copy n was now e part.kind part.name ne)
 
   content-kept : (f : ℕ) (part : Part) → was.kind ≢ part.kind → content_at other (parts news f) part ≡ content_at view (parts olds f) part
   content-kept f part ne = ap (shown_content view) (like-kept f part ne)
@@ -90,7 +94,8 @@ module _ (view : VolumeView) (block copy : ℕ → List ℕ) (n : ℕ) (was now 
       let shown : map (stream_at other (parts news f)) (filter begins_stream (parts olds f))
       ≡ map (stream_at view (parts olds f)) (filter begins_stream (parts olds f)) =
       map_agree (stream_at view (parts olds f)) (stream_at other (parts news f)) (filter begins_stream (parts olds f)) (λ part c.
-      let kind : part.kind ≡ DATA = eqb-true part.kind DATA (and_parts _ _ (Contains-from_filter begins_stream (parts olds f) part c).1).0 in
+      let kind : part.kind ≡ DATA =
+      eqb-true part.kind DATA (and_parts _ _ (Contains-from_filter begins_stream (parts olds f) part c).1).0 in
       ap (λ content. record { name = units_in part.name; content = content }) (content-kept f part (λ s. d (s ∙ kind)))) in
       ap (λ fold. in_order (stream_above fold) (map (stream_at other (parts news f)) (filter begins_stream (parts news f))))
       (clauses.fold-kept view block copy n was now e)
@@ -104,16 +109,20 @@ module _ (view : VolumeView) (block copy : ℕ → List ℕ) (n : ℕ) (was now 
   unfolding point_of
   point-kept f =
       let found : find (is_of REPARSE_POINT []) (parts news f) ≡ find (is_of REPARSE_POINT []) (parts olds f) =
-      find-passing (is_of REPARSE_POINT []) (parts news f) (parts olds f) (parts_of.filter-kept view block copy n was now e (is_of REPARSE_POINT []) f
-      (parts_of.fails-was view block copy n was now e REPARSE_POINT [] not-point) (parts_of.fails-now view block copy n was now e REPARSE_POINT [] not-point)) in
-      ap (option_map (λ part. point_by (content_at other (parts news f) part))) found ∙ by (find (is_of REPARSE_POINT []) (parts olds f)) refl
+      find-passing (is_of REPARSE_POINT []) (parts news f) (parts olds f)
+      (parts_of.filter-kept view block copy n was now e (is_of REPARSE_POINT []) f
+      (parts_of.fails-was view block copy n was now e REPARSE_POINT [] not-point)
+      (parts_of.fails-now view block copy n was now e REPARSE_POINT [] not-point)) in
+      ap (option_map (λ part. point_by (content_at other (parts news f) part))) found
+      ∙ by (find (is_of REPARSE_POINT []) (parts olds f)) refl
     where
       by : (o : Option Part) → find (is_of REPARSE_POINT []) (parts olds f) ≡ o
           → option_map (λ part. point_by (content_at other (parts news f) part)) o
           ≡ option_map (λ part. point_by (content_at view (parts olds f) part)) o
       by None is = refl
       by (Some part) is =
-          let kind : part.kind ≡ REPARSE_POINT = eqb-true part.kind REPARSE_POINT (and_parts _ _ (find-found _ (parts olds f) part is).1).0 in
+          let kind : part.kind ≡ REPARSE_POINT =
+          eqb-true part.kind REPARSE_POINT (and_parts _ _ (find-found _ (parts olds f) part is).1).0 in
           ap (λ content. Some (point_by content)) (content-kept f part (λ s. not-point (s ∙ kind)))
 
   -- The standard information stands elsewhere than among the other attributes.
@@ -126,7 +135,8 @@ module _ (view : VolumeView) (block copy : ℕ → List ℕ) (n : ℕ) (was now 
   unfolding others_of
   others-kept standard f =
       let passing : filter begins_other (parts news f) ≡ filter begins_other (parts olds f) =
-      parts_of.filter-kept view block copy n was now e begins_other f (elsewhere was standard) (elsewhere now (e.rewrites.kind ∙ standard)) in
+      parts_of.filter-kept view block copy n was now e begins_other f (elsewhere was standard)
+      (elsewhere now (e.rewrites.kind ∙ standard)) in
       let shown : map (other_at other (parts news f)) (filter begins_other (parts olds f))
       ≡ map (other_at view (parts olds f)) (filter begins_other (parts olds f)) =
       map_agree (other_at view (parts olds f)) (other_at other (parts news f)) (filter begins_other (parts olds f)) (λ part c.
@@ -176,8 +186,10 @@ module _ (view : VolumeView) (block copy : ℕ → List ℕ) (n : ℕ) (was now 
       → standard_of (parts news f) ≡ standard_of (parts olds f) → node_at other f ≡ node_at view f
   unfolding node_at
   node_at-kept f others standard =
-      parts_of.record-cases view block copy n was now e f (λ o o'. option_and_then (node_on other f) o' ≡ option_and_then (node_on view f) o)
-      (λ here. node_on-kept f e.edit.was_record e.edit.now_record base-is (parts_of.directory-same view block copy n was now e) others standard)
+      parts_of.record-cases view block copy n was now e f
+      (λ o o'. option_and_then (node_on other f) o' ≡ option_and_then (node_on view f) o)
+      (λ here. node_on-kept f e.edit.was_record e.edit.now_record base-is
+      (parts_of.directory-same view block copy n was now e) others standard)
       same
     where
       same : (o : Option Record) → option_and_then (node_on other f) o ≡ option_and_then (node_on view f) o
@@ -195,7 +207,8 @@ module _ (view : VolumeView) (block copy : ℕ → List ℕ) (n : ℕ) (was now 
   links_that-kept test test' same =
       ap (λ t. in_order (link_above (volume_fold other)) (filter t (all_links other))) same
       ∙ ap (λ fold. in_order (link_above fold) (filter test (all_links other))) (clauses.fold-kept view block copy n was now e)
-      ∙ ap (λ all. in_order (link_above (volume_fold view)) (filter test (map link_by all))) (parts_of.links-kept view block copy n was now e)
+      ∙ ap (λ all. in_order (link_above (volume_fold view)) (filter test (map link_by all)))
+      (parts_of.links-kept view block copy n was now e)
 
   hidden_link-kept : is_hidden_link other ≡ is_hidden_link view
   hidden_link-kept = fun_ext (λ (link : Link). ap (λ b. (link.child == ROOT) || b) (hidden-kept link.child))
@@ -221,7 +234,8 @@ module _ (view : VolumeView) (block copy : ℕ → List ℕ) (n : ℕ) (was now 
   -- THE VERSION of the volume, which is hidden: it reads as before.
   version-nodes : file_of n e.edit.was_record ≡ VOLUME → tree_nodes other ≡ tree_nodes view
   unfolding tree_nodes
-  version-nodes file = ap (λ (at : ℕ → Option Node). finmap.from_entries {R = nat_cmp} (filter_map (λ f. option_map (λ node. (f, node)) (at f))
+  version-nodes file =
+      ap (λ (at : ℕ → Option Node). finmap.from_entries {R = nat_cmp} (filter_map (λ f. option_map (λ node. (f, node)) (at f))
       (range_with_len 0 view.layout.count))) (fun_ext each)
     where
       each : (f : ℕ) → node_at other f ≡ node_at view f
@@ -304,7 +318,9 @@ module _ (view : VolumeView) (block copy : ℕ → List ℕ) (n : ℕ) (was now 
           where
             yes : (b : Bool) → is_base r ≡ b → node_on view f r ≡ Some node → (IsTrue (is_base r) → X) → X
             yes true base t h = h base
-            yes false base t h = absurd (let no = sym (ap (λ b. cond (b && not (is_hidden olds f)) (Some (node_by view r (parts olds f))) None) base) ∙ t in no-node no)
+            yes false base t h =
+                absurd (let no = sym (ap (λ b. cond (b && not (is_hidden olds f)) (Some (node_by view r (parts olds f))) None) base)
+                ∙ t in no-node no)
               where
                 no-node : None ≡ Some node → ⊥
                 no-node q = cc

@@ -28,7 +28,8 @@ harmed_at first state (Some flag) now m stands is =
     record { bytes = state.image; are = is; state = inl (record { flag = flag; is = m.of_first; bit = m.set }) }
 
 -- it is marked behind an edit, whatever the tree
-pub marked_at : (first : VolumeView) (state : State) (mark : Option Flag) (tree : Tree) (now : Option (List ℕ)) → MarkStands first state mark
+pub marked_at : (first : VolumeView) (state : State) (mark : Option Flag) (tree : Tree) (now : Option (List ℕ))
+    → MarkStands first state mark
     → is_some mark ≡ true → now ≡ Some state.image → IsHarmed first tree now
 marked_at first state None tree now m some is = cc
 marked_at first state (Some flag) tree now m some is =

@@ -32,7 +32,8 @@ module _ (old new : VolumeView) (n : ℕ) (stored : List ℕ) (was now : Attribu
   pub sound-written : IsSound old → IsSound new
   sound-written sound = subst IsSound (sym is)
       (same.sound-other old new.block new.copy new.cluster new.rest n (part_of n was) (part_of n now) quietly
-      (λ c l. w.record_is.replaces.clusters c (outside.looked c l)) (λ f t c o. w.record_is.replaces.clusters c (outside.shown f t c o)) sound)
+      (λ c l. w.record_is.replaces.clusters c (outside.looked c l))
+      (λ f t c o. w.record_is.replaces.clusters c (outside.shown f t c o)) sound)
 
   -- the standard information of file f, whose node this is
   pub reads-written : IsSound old → (part_of n was).kind ≡ STANDARD_INFORMATION → (part_of n was).name ≡ [] → (node : Node)

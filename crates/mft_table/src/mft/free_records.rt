@@ -107,7 +107,8 @@ impl<D: Disk> Mft<'_, D> {
         requires array { HasArray block.now }
         requires mirror { IsMirrorInside (mounted_of D.Disk self.old) }
         requires sound { is_mft_broken D.Disk self.old ≡ false }
-        ensures replaces { OnOk result (IsApart (view D.Disk self.old).layout → 1024 * number + 1024 ≤ (view D.Disk self.old).layout.initialized
+        ensures replaces { OnOk result (IsApart (view D.Disk self.old).layout
+            → 1024 * number + 1024 ≤ (view D.Disk self.old).layout.initialized
             → (stored : List ℕ) × Seals block.now stored × ReplacesBlock (view D.Disk self.old) (view D.Disk self.new) number stored) }
         ensures bits { OnOk result (mounted_of D.Disk self.new ≡ with_record_taken (mounted_of D.Disk self.old) number) }
         ensures stages { OnOk result (ReadsAndStages D.Disk (record_places (view D.Disk self.old).layout number) 4 0 self.old self.new) }

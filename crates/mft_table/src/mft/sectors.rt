@@ -76,8 +76,10 @@ impl<D: Disk> Mft<'_, D> {
         requires sound { is_mft_broken D.Disk self.old ≡ false }
         ensures replaces { OnOk result (PutsSector (D.now (disk_of D.Disk (stage_of D.Disk self.old)))
             (D.now (disk_of D.Disk (stage_of D.Disk self.new))) sector from.now) }
-        ensures either { OnErr result ((D.now (disk_of D.Disk (stage_of D.Disk self.new)) ≡ D.now (disk_of D.Disk (stage_of D.Disk self.old)))
-            ⊎ PutsSector (D.now (disk_of D.Disk (stage_of D.Disk self.old))) (D.now (disk_of D.Disk (stage_of D.Disk self.new))) sector from.now) }
+        ensures either { OnErr result ((D.now (disk_of D.Disk (stage_of D.Disk self.new))
+            ≡ D.now (disk_of D.Disk (stage_of D.Disk self.old)))
+            ⊎ PutsSector (D.now (disk_of D.Disk (stage_of D.Disk self.old)))
+            (D.now (disk_of D.Disk (stage_of D.Disk self.new))) sector from.now) }
         ensures others { (other : ℕ) → other ≢ sector → sector_in (D.now (disk_of D.Disk (stage_of D.Disk self.new))) other
             ≡ sector_in (D.now (disk_of D.Disk (stage_of D.Disk self.old))) other }
         ensures image { OnOk result (¬ (Contains (places D.Disk (stage_of D.Disk self.old)) sector)

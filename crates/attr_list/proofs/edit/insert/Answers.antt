@@ -23,5 +23,6 @@ returns-clause-inserted c =
     let inside : at ≤ length old = omega (arith, spot, place-inside old (length (list_entries old)) i c.requires.shape place.within) in
     Inserts-put i old c.requires.shape c.args.entry.now made c.entry_bytes-bytes.ensures (fold_of c.args.upcase.now) _ at place spot
     (rotated old made c.deref_mut.result.now c.rotate_right.new.self c.extend_from_slice.new.self.items at c.len-3.result _
-    (c.in_ok-extend_from_slice.ensures.items ∙ ap (λ zs. old ++ zs) c.deref-3.ensures.0) c.deref_mut.ensures.value inside c.len-3.ensures.value (sym c.deref_mut.ensures.len)
+    (c.in_ok-extend_from_slice.ensures.items ∙ ap (λ zs. old ++ zs) c.deref-3.ensures.0)
+    c.deref_mut.ensures.value inside c.len-3.ensures.value (sym c.deref_mut.ensures.len)
     c.rotate_right.ensures.after)

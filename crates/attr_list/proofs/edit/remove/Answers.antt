@@ -15,7 +15,8 @@ returns c =
     let second : c.deref-2.result.now ≡ old = c.deref-2.ensures.value in
     let place : at ≡ list_entry_place old c.args.i = c.entry_place-at.ensures ∙ ap (λ bytes. list_entry_place bytes c.args.i) first in
     let long : len ≡ listed_len old at = c.u16_at-len.ensures ∙ ap (λ bytes. listed_len bytes at) second in
-    let inside : at + len ≤ length old = omega (arith, ap (listed_len old) place, place, long, (c.requires.shape.each c.args.i c.requires.inside).inside) in
+    let inside : at + len ≤ length old =
+    omega (arith, ap (listed_len old) place, place, long, (c.requires.shape.each c.args.i c.requires.inside).inside) in
     let full : vec_len c.args.list.now ≡ length old = sym c.deref.ensures.len ∙ ap length first in
     let moved = c.copy_within.ensures.items ∙ ap (λ end. copy_within old (at + len) end at) full in
     Removes-cut c.args.i old c.requires.shape _ at len c.requires.inside place long

@@ -1,6 +1,7 @@
 use Rattle.std.proofs.Common.{◌≡◌, ◌⊎◌, inl, inr, ℕ, List, length, ap, subst, sym}
 use Rattle.ntfs_def.specs.AttributeList.{HasListShape, list_entries}
-use Rattle.attr_list.proofs.ListEntryLaws.{length-list_entries, slice_get-list_entries, HasListShape-exact, IsFirstBadEntry-exact, HasListShape-IsFirstBadEntry, list_or_bad}
+use Rattle.attr_list.proofs.ListEntryLaws.{length-list_entries, slice_get-list_entries, HasListShape-exact, IsFirstBadEntry-exact}
+use Rattle.attr_list.proofs.ListEntryLaws.{HasListShape-IsFirstBadEntry, list_or_bad}
 use Rattle.attr_list.specs.declared.ListNo.{ListNo}
 use Rattle.attr_list.specs.declared.ListNo.TheVariants.{Long, Memory, Shape}
 use Rattle.attr_list.specs.View.{Refuses}

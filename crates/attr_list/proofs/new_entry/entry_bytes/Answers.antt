@@ -25,9 +25,11 @@ returns c =
     c.push-5.ensures ∙ ap (λ more. c.push-4.new.bytes.items ++ more) c.to_le_bytes-4.ensures ∙ ap (after (to_le_bytes w64 entry.holder)) (
     c.push-4.ensures ∙ ap (λ more. c.push-3.new.bytes.items ++ more) c.to_le_bytes-3.ensures ∙ ap (after (to_le_bytes w64 entry.first)) (
     c.push-3.ensures ∙ ap (λ xs. c.push-2.new.bytes.items ++ (length xs ∷ 0x1A ∷ [])) name ∙ ap (after (length entry.name ∷ 0x1A ∷ [])) (
-    c.push-2.ensures ∙ ap (λ more. c.push.new.bytes.items ++ more) (c.to_le_bytes-2.ensures ∙ ap (λ xs. to_le_bytes w16 (entry_len (length xs))) name)
+    c.push-2.ensures ∙ ap (λ more. c.push.new.bytes.items ++ more)
+    (c.to_le_bytes-2.ensures ∙ ap (λ xs. to_le_bytes w16 (entry_len (length xs))) name)
     ∙ ap (after (to_le_bytes w16 (entry_len (length entry.name)))) (
-    c.push.ensures ∙ ap (λ more. c.new-bytes.result.items ++ more) c.to_le_bytes.ensures ∙ ap (after (to_le_bytes w32 entry.kind)) c.new-bytes.ensures))))) in
+    c.push.ensures ∙ ap (λ more. c.new-bytes.result.items ++ more) c.to_le_bytes.ensures
+    ∙ ap (after (to_le_bytes w32 entry.kind)) c.new-bytes.ensures))))) in
     let fill : take (entry_len (length units) - name_end (length units)) (replicate 8 0) ≡ replicate pad 0 =
     take-replicate (entry_len (length units) - name_end (length units)) 8 0 (omega arith)
     ∙ ap (λ xs. replicate (entry_len (length xs) - name_end (length xs)) 0) name in
@@ -35,4 +37,5 @@ returns c =
     c.push-7.ensures ∙ ap (λ more. c.push_units.new.bytes.items ++ more) fill ∙ ap (after (replicate pad 0)) (
     c.push_units.ensures.bytes ∙ ap (λ xs. c.push-6.new.bytes.items ++ name_bytes xs) name ∙ ap (after (name_bytes entry.name)) header) in
     subst (HasEntryBytes entry) (sym text)
-    (HasEntryBytes-text entry pad kind first holder id (subst (All (λ unit. unit < 2 ^ 16)) name c.push_units.ensures.fit) (omega (arith, c.requires)) (omega arith))
+    (HasEntryBytes-text entry pad kind first holder id (subst (All (λ unit. unit < 2 ^ 16)) name c.push_units.ensures.fit)
+    (omega (arith, c.requires)) (omega arith))

@@ -21,7 +21,8 @@ extents-preserved g c =
     let kept = c.extents.invariant.reads in
     record {
       within = omega (arith, c.in_ok-done.ensures.len);
-      cut = seam-next c.args.at c.extents.done _ n _ len c.in_ok-done.ensures.cut refl (omega arith) lt (omega (arith, c.in_ok-done.ensures.some));
+      cut = seam-next c.args.at c.extents.done _ n _ len c.in_ok-done.ensures.cut refl (omega arith) lt
+          (omega (arith, c.in_ok-done.ensures.some));
       read = λ told f s. stored_bytes-next _ _ _ c.args.into.now c.extents.into _ _ _ c.extents.done n _ refl (omega arith)
           (c.extents.invariant.read told f s)
           (rw (kept.stage.only_reads.image, kept.mounted) at c.in_ok-done.ensures.read told f s);

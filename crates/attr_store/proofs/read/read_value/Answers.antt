@@ -13,6 +13,7 @@ read_clusters-requires g c = record {
 
 pub returns-in-None-clause-read : goal.returns-in-None-clause-read
 returns-in-None-clause-read g c = on_ok_weaker c.read_clusters.result
-    (λ read told readable are file. clusters-read (view g.D.Disk c.args.mft.now) c.args.file.now (attribute_of c.attr-attribute.result) c.args.i c.args.at
+    (λ read told readable are file. clusters-read (view g.D.Disk c.args.mft.now) c.args.file.now
+    (attribute_of c.attr-attribute.result) c.args.i c.args.at
     (length c.args.into.now) c.read_clusters.new.into (sym c.in-None.ensures) readable are file (read told) c.attr-attribute.ensures.part)
     c.read_clusters.ensures.read

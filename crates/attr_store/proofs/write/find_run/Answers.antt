@@ -30,7 +30,8 @@ returns-in_default-2-clause-lies c size f s =
 
 pub returns-clause-some : goal.returns-clause-some
 returns-clause-some c =
-    let some = run_left-some (unwrap_or (runs_in c.extent_text.result.now) []) c.in-Some-2.run' (c.args.vcn - c.extent_sizes-sizes.result.first)
+    let some = run_left-some (unwrap_or (runs_in c.extent_text.result.now) []) c.in-Some-2.run'
+    (c.args.vcn - c.extent_sizes-sizes.result.first)
     (sym c.in_ok-run.ensures ∙ c.in-Some-2.is) in
     (omega (arith, some), omega (arith, some))
 
@@ -45,6 +46,7 @@ returns-clause-lies c size f s k lt =
     let told : run_in_text extent.sizes.first text c.args.vcn ≡ Some c.in-Some-2.run' =
     sym (c.in_ok-run.ensures ∙ ap (λ (z : Sizes). run_in_text z.first c.extent_text.result.now c.args.vcn) sizes
     ∙ ap (λ (t : List ℕ). run_in_text extent.sizes.first t c.args.vcn) its) ∙ c.in-Some-2.is in
-    found-run size f found.holder (parts_held_like c.args.file.now (attribute_of c.args.stream.now)) a c.args.vcn k extent text c.in-Some-2.run'
+    found-run size f found.holder (parts_held_like c.args.file.now (attribute_of c.args.stream.now))
+    a c.args.vcn k extent text c.in-Some-2.run'
     s body found.among first (omega (arith, lt, end, last, c.min.ensures, c.saturating_add-most.ensures)) told
     (omega (arith, lt, c.min.ensures))

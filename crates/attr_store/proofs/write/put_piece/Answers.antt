@@ -10,7 +10,12 @@ returns-then-sector-sectors-clause-written g c spot k len apart own there =
 
 pub returns-else-sector-sectors-clause-written : goal.returns-else-sector-sectors-clause-written
 returns-else-sector-sectors-clause-written g c spot k len apart own there =
-    absurd (omega (arith, put-inside g.D.Disk c.args.mft.now spot k c.args.sector apart own there, c.sectors.ensures.size, c.if-sector-sectors.false))
+    absurd (omega (
+      arith,
+      put-inside g.D.Disk c.args.mft.now spot k c.args.sector apart own there,
+      c.sectors.ensures.size,
+      c.if-sector-sectors.false,
+    ))
 
 pub returns-else-sector-sectors-clause-stages : goal.returns-else-sector-sectors-clause-stages
 returns-else-sector-sectors-clause-stages g c =

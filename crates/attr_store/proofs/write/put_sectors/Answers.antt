@@ -20,7 +20,8 @@ sectors-preserved g c =
     let (front, back, long) = c.in-Some.ensures.cases in
     let rest = c.sectors.rest.now in
     let piece : length c.in-Some.piece.now ≡ 512 = ap length front ∙ length-take-le 512 rest (omega (arith, long)) in
-    let split = sym (take-append-drop 512 rest) ∙ ap (λ xs. xs ++ drop 512 rest) (sym front) ∙ ap (λ xs. c.in-Some.piece.now ++ xs) (sym back) in
+    let split = sym (take-append-drop 512 rest) ∙ ap (λ xs. xs ++ drop 512 rest) (sym front)
+    ∙ ap (λ xs. c.in-Some.piece.now ++ xs) (sym back) in
     let put = c.put_piece.ensures in
     let first = c.args.first in
     let sector = c.sectors.sector in
@@ -32,7 +33,8 @@ sectors-preserved g c =
       whole = omega (arith, inv.whole, long);
       sum = omega (arith, inv.sum, long);
       room = omega (arith, inv.room, long, put.stages.room);
-      stages = MftStages-then g.D.Disk (range_with_len first n) (sector ∷ []) (n - length rest / 512) 1 (n - length c.in-Some.behind.now / 512)
+      stages = MftStages-then g.D.Disk (range_with_len first n) (sector ∷ []) (n - length rest / 512) 1
+          (n - length c.in-Some.behind.now / 512)
           c.args.mft.now c.sectors.mft c.put_piece.new.mft
           (λ s h. subst (λ x. Contains (range_with_len first n) x) (Contains-only sector s h) (Contains-range first n sector from below))
           (omega (arith, long, inv.less)) inv.stages put.stages;

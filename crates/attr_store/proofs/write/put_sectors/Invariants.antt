@@ -18,8 +18,10 @@ invariant-sectors g l = record {
   stages : MftStages g.D.Disk (range_with_len l.initial.sector (length l.initial.rest / 512))
       (length l.initial.rest / 512 - length l.rest / 512) l.initial.mft l.mft;
   written : (spot : ℕ → Spot) (k : ℕ) → IsApart (view g.D.Disk l.initial.mft).layout → IsOwnStream (view g.D.Disk l.initial.mft).layout spot
-      → ((j : ℕ) → j < length l.initial.rest / 512 → stream_place (view g.D.Disk l.initial.mft).layout spot (k + j) ≡ Some (l.initial.sector + j))
-      → IsDone (view g.D.Disk l.initial.mft) (view g.D.Disk l.mft) spot (512 * k) l.initial.rest l.rest (512 * (l.sector - l.initial.sector));
+      → ((j : ℕ) → j < length l.initial.rest / 512
+      → stream_place (view g.D.Disk l.initial.mft).layout spot (k + j) ≡ Some (l.initial.sector + j))
+      → IsDone (view g.D.Disk l.initial.mft) (view g.D.Disk l.mft) spot (512 * k) l.initial.rest l.rest
+      (512 * (l.sector - l.initial.sector));
 }
 
 abbrev pub decreases-sectors : goal.decreases-sectors

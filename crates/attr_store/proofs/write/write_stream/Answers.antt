@@ -1,4 +1,5 @@
-use Rattle.std.proofs.Common.{◌≡◌, ◌+◌, ◌-◌, ◌*◌, ◌/◌, ◌%◌, ◌^◌, ◌<◌, ◌≤◌, ℕ, List, [], ◌++◌, drop, length, Some, inl, inr, refl, sym, ap, subst, ◌∙◌, arith}
+use Rattle.std.proofs.Common.{◌≡◌, ◌+◌, ◌-◌, ◌*◌, ◌/◌, ◌%◌, ◌^◌, ◌<◌, ◌≤◌, ℕ, List, [], ◌++◌, drop, length, Some, inl, inr, refl, sym, ap}
+use Rattle.std.proofs.Common.{subst, ◌∙◌, arith}
 use Rattle.std.specs.Prelude.{Contains, IfSome, min}
 use Rattle.std.proofs.Math.ListN.{take-append-drop}
 use Rattle.std.proofs.lemmas.Bool.{cases_lt, eqb-false, eqb-true}
@@ -83,7 +84,8 @@ runs-preserved g c =
     ∙ ap (λ xs. here ++ xs) (sym c.split_at.ensures.back) in
     let extents = parts_held_like c.args.file.now (attribute_of c.args.wanted.now) in
     let u = c.cluster_bytes-size.result in
-    let lies : (f : ℕ) → AreAttribute (cluster_bytes was.layout) f extents → (k : ℕ) → k < run.len → spot (place / size + k) ≡ spot_on run.lcn k =
+    let lies : (f : ℕ) → AreAttribute (cluster_bytes was.layout) f extents → (k : ℕ) → k < run.len
+    → spot (place / size + k) ≡ spot_on run.lcn k =
     λ f s. subst (λ w. (k : ℕ) → k < run.len → spot (place / w + k) ≡ spot_on run.lcn k) unit
     (subst (λ o. LiesAs spot (place / u) o) c.in-Some.is (c.in_ok-run.ensures.lies (cluster_bytes was.layout) f s)) in
     let put = c.put_run.ensures in
@@ -105,20 +107,24 @@ runs-preserved g c =
       places = λ f s. StagesOnly-then g.D.Disk (stream_sectors was.layout spot at all)
           (run_sectors mid.layout.cluster_sectors run.lcn (place % u) (length here))
           (stage_of g.D.Disk c.args.mft.now) (stage_of g.D.Disk c.runs.mft) (stage_of g.D.Disk c.put_run.new.mft)
-          (λ x h. run-named was.layout spot at all place n run.len run.lcn some c.requires.aligned inv.aligned whole inv.from total (lies f s) within x
+          (λ x h. run-named was.layout spot at all place n run.len run.lcn some c.requires.aligned inv.aligned whole inv.from total
+          (lies f s) within x
           (subst (λ xs. Contains xs x) named h)) (inv.places f s) put.stages.places;
       written = λ f s apart own placed.
-          let lay : (P : Mounted → Type 0) → P c.args.mft.now.mounted → P c.runs.mft.mounted = λ P. subst P (sym inv.stages.stages.mounted) in
+          let lay : (P : Mounted → Type 0) → P c.args.mft.now.mounted → P c.runs.mft.mounted =
+          λ P. subst P (sym inv.stages.stages.mounted) in
           let filled = left (length rest) (eqb-false (length rest) 0 (sym c.is_empty.ensures ∙ c.runs-test.true)) in
           let there = placed place (inv.from, omega (arith, inv.sum, filled)) in
           let zero : place / size + 0 ≡ place / size = omega arith in
           let begins : spot_on run.lcn 0 ≡ At there.0 = sym (lies f s 0 one) ∙ ap spot zero ∙ there.1 in
           let first = run-there run.lcn there.0 begins in
-          let sectors : (j : ℕ) → j < length here / 512 → stream_place was.layout spot (place / 512 + j) ≡ Some (first.0 * per + place % u / 512 + j) =
+          let sectors : (j : ℕ) → j < length here / 512
+          → stream_place was.layout spot (place / 512 + j) ≡ Some (first.0 * per + place % u / 512 + j) =
           λ j lt. run-place was.layout spot place first.0 run.len j some inv.aligned (λ k l. lies f s k l ∙ ap (λ o. spot_on o k) first.1)
           (omega (arith, within, lt, front)) ∙ ap (λ w. Some (first.0 * per + place % w / 512 + j)) (sym unit) in
           done-then was mid (view g.D.Disk c.put_run.new.mft) spot at (512 * (place / 512)) c.args.from.now rest here behind (place - at)
-          (place + length here - at) split (omega (arith, inv.aligned, inv.from)) (omega (arith, inv.from)) (inv.written f s apart own placed)
+          (place + length here - at) split (omega (arith, inv.aligned, inv.from)) (omega (arith, inv.from))
+          (inv.written f s apart own placed)
           (put.written spot (place / 512) first.0 first.1 (omega (arith, front, whole)) (lay (λ t. IsApart (mounted_layout t)) apart)
           (lay (λ t. IsOwnStream (mounted_layout t) spot) own)
           (lay (λ t. (j : ℕ) → j < length here / 512 → stream_place (mounted_layout t) spot (place / 512 + j)
@@ -128,5 +134,6 @@ runs-preserved g c =
 pub returns-clause-written : goal.returns-clause-written
 returns-clause-written g c f s apart own placed =
     let none = eqb-true (length c.runs.rest.now) 0 (sym c.is_empty.ensures ∙ c.runs-test.false) in
-    done-all (view g.D.Disk c.args.mft.now) (view g.D.Disk c.runs.mft) (spot_at (parts_held_like c.args.file.now (attribute_of c.args.wanted.now)))
+    done-all (view g.D.Disk c.args.mft.now) (view g.D.Disk c.runs.mft)
+    (spot_at (parts_held_like c.args.file.now (attribute_of c.args.wanted.now)))
     c.args.at c.args.from.now c.runs.rest.now (c.runs.place - c.args.at) none (c.runs.invariant.written f s apart own placed)

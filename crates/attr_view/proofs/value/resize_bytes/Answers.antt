@@ -19,7 +19,8 @@ returns c =
     m.len m.before (λ i j from to e. m.moved i j (omega (arith, was, from)) (omega (arith, used, to)) (omega (arith, was, e)))
     (λ k over. m.behind k (omega (arith, was, used, over)))
     (λ k over under. c.clear.ensures.zeros k (omega (arith, over, begin)) under)
-    (subst (λ (s : _). SameOutside c.move_bytes.new.block c.clear.new.block (at + s + c.min.result) (at + c.args.len)) begin c.clear.ensures.rest)
+    (subst (λ (s : _). SameOutside c.move_bytes.new.block c.clear.new.block (at + s + c.min.result) (at + c.args.len))
+    begin c.clear.ensures.rest)
     c.put_u32.ensures.rest c.put_u32.ensures.value
     c.put_u16.ensures.rest (c.put_u16.ensures.value ∙ c.name_begin-name.ensures)
     c.put_u32-2.ensures.rest c.put_u32-2.ensures.value

@@ -29,17 +29,20 @@ returns-else-points-clause-right g c = λ told.
 pub returns-in_err-objects-clause-reads : goal.returns-in_err-objects-clause-reads
 returns-in_err-objects-clause-reads g c = (
   c.check_extended.ensures.reads.0 + c.check_extended-2.ensures.reads.0,
-  MftReads-then g.D.Disk c.args.mft.now c.check_extended.new.mft c.check_extended-2.new.mft _ _ _ c.check_extended.ensures.reads.1 c.check_extended-2.ensures.reads.1 (le_refl _),
+  MftReads-then g.D.Disk c.args.mft.now c.check_extended.new.mft c.check_extended-2.new.mft _ _ _ c.check_extended.ensures.reads.1
+      c.check_extended-2.ensures.reads.1 (le_refl _),
 )
 
 pub returns-then-points-clause-reads : goal.returns-then-points-clause-reads
 returns-then-points-clause-reads g c = (
   c.check_extended.ensures.reads.0 + c.check_extended-2.ensures.reads.0,
-  MftReads-then g.D.Disk c.args.mft.now c.check_extended.new.mft c.check_extended-2.new.mft _ _ _ c.check_extended.ensures.reads.1 c.check_extended-2.ensures.reads.1 (le_refl _),
+  MftReads-then g.D.Disk c.args.mft.now c.check_extended.new.mft c.check_extended-2.new.mft _ _ _ c.check_extended.ensures.reads.1
+      c.check_extended-2.ensures.reads.1 (le_refl _),
 )
 
 pub returns-else-points-clause-reads : goal.returns-else-points-clause-reads
 returns-else-points-clause-reads g c = (
   c.check_extended.ensures.reads.0 + c.check_extended-2.ensures.reads.0,
-  MftReads-then g.D.Disk c.args.mft.now c.check_extended.new.mft c.check_extended-2.new.mft _ _ _ c.check_extended.ensures.reads.1 c.check_extended-2.ensures.reads.1 (le_refl _),
+  MftReads-then g.D.Disk c.args.mft.now c.check_extended.new.mft c.check_extended-2.new.mft _ _ _ c.check_extended.ensures.reads.1
+      c.check_extended-2.ensures.reads.1 (le_refl _),
 )

@@ -25,5 +25,6 @@ returns-clause-right g c =
     ok-weaker c.check_view.result (λ right tells told units wide-name.
     let test = c.stands_in_extend.ensures (right-file volume file (c.requires.held told)) in
     extended volume file c.args.letters.now units (c.requires.held told).parts right
-    (omega (arith, c.number.ensures, c.if-number-lt-FIRST_ORDINARY.false)) (test.0 c.if-not-stands_in_extend.false) (tells told units wide-name))
+    (omega (arith, c.number.ensures, c.if-number-lt-FIRST_ORDINARY.false)) (test.0 c.if-not-stands_in_extend.false)
+    (tells told units wide-name))
     c.check_view.ensures.right

@@ -16,5 +16,6 @@ returns-clause-right g c =
     ok-weaker c.check_directory.result (λ right tells told notes header.
     a-directory volume (file_number file.parts) file.header header right
     (eqb-true (file.header.flags / 2 % 2) 1 (sym c.is_directory.ensures ∙ c.if-not-is_directory.false))
-    (tells told (subst (TellsNames volume (file_number file.parts)) (sym own) (told-names volume c.args.notes.now (file_number file.parts) notes))))
+    (tells told (subst (TellsNames volume (file_number file.parts)) (sym own)
+    (told-names volume c.args.notes.now (file_number file.parts) notes))))
     c.check_directory.ensures.right

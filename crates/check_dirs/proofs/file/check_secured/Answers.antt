@@ -28,17 +28,20 @@ returns-else-by_ids-clause-right g c = λ told.
 pub returns-in_err-by_hashes-clause-reads : goal.returns-in_err-by_hashes-clause-reads
 returns-in_err-by_hashes-clause-reads g c = (
   c.check_view.ensures.reads.0 + c.check_view-2.ensures.reads.0,
-  MftReads-then g.D.Disk c.args.mft.now c.check_view.new.mft c.check_view-2.new.mft _ _ _ c.check_view.ensures.reads.1 c.check_view-2.ensures.reads.1 (le_refl _),
+  MftReads-then g.D.Disk c.args.mft.now c.check_view.new.mft c.check_view-2.new.mft _ _ _ c.check_view.ensures.reads.1
+      c.check_view-2.ensures.reads.1 (le_refl _),
 )
 
 pub returns-then-by_ids-clause-reads : goal.returns-then-by_ids-clause-reads
 returns-then-by_ids-clause-reads g c = (
   c.check_view.ensures.reads.0 + c.check_view-2.ensures.reads.0,
-  MftReads-then g.D.Disk c.args.mft.now c.check_view.new.mft c.check_view-2.new.mft _ _ _ c.check_view.ensures.reads.1 c.check_view-2.ensures.reads.1 (le_refl _),
+  MftReads-then g.D.Disk c.args.mft.now c.check_view.new.mft c.check_view-2.new.mft _ _ _ c.check_view.ensures.reads.1
+      c.check_view-2.ensures.reads.1 (le_refl _),
 )
 
 pub returns-else-by_ids-clause-reads : goal.returns-else-by_ids-clause-reads
 returns-else-by_ids-clause-reads g c = (
   c.check_view.ensures.reads.0 + c.check_view-2.ensures.reads.0,
-  MftReads-then g.D.Disk c.args.mft.now c.check_view.new.mft c.check_view-2.new.mft _ _ _ c.check_view.ensures.reads.1 c.check_view-2.ensures.reads.1 (le_refl _),
+  MftReads-then g.D.Disk c.args.mft.now c.check_view.new.mft c.check_view-2.new.mft _ _ _ c.check_view.ensures.reads.1
+      c.check_view-2.ensures.reads.1 (le_refl _),
 )

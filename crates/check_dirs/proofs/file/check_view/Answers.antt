@@ -29,8 +29,11 @@ returns-clause-right g c = λ told units wide-name.
     let index = c.in-Some.index in
     let rule : KeyRule = key_rule c.args.collation (g.C.Collation.order c.args.order.now) (g.C.Collation.valid c.args.order.now) in
     let items : Option (List (List ℕ)) = option_map (λ (entries : Vec Octets Global). entries.items) c.in_ok-found.found in
-    let some = subst (λ n. 1 ≤ length (attribute_held file INDEX_ROOT n)) (sym c.in-Some.ensures.name) (c.has_root.ensures.0 c.if-not-has_root.false) in
-    let meets = told-meets (view g.D.Disk c.args.mft.now) file index.name.now units (c.in-Some.ensures.name ∙ wide-name) (c.requires.held told).parts rule
-    some index.root.now items (omega (arith, c.args.mft.now.stands.table.some)) c.in-Some.ensures.found.parts (c.in_ok-found.ensures.index told) in
+    let some = subst (λ n. 1 ≤ length (attribute_held file INDEX_ROOT n)) (sym c.in-Some.ensures.name)
+    (c.has_root.ensures.0 c.if-not-has_root.false) in
+    let meets = told-meets (view g.D.Disk c.args.mft.now) file index.name.now units (c.in-Some.ensures.name ∙ wide-name)
+    (c.requires.held told).parts rule
+    some index.root.now items (omega (arith, c.args.mft.now.stands.table.some)) c.in-Some.ensures.found.parts
+    (c.in_ok-found.ensures.index told) in
     subst (λ b. IsTrue b ↔ MeetsViewIndex (view g.D.Disk c.args.mft.now) (file_number file) units rule)
     (map-some (λ (entries : Vec Octets Global). entries.items) c.in_ok-found.found ∙ sym c.is_some.ensures) meets

@@ -23,17 +23,20 @@ returns-else-secured-clause-right g c = λ told.
 pub returns-in_err-extended-clause-reads : goal.returns-in_err-extended-clause-reads
 returns-in_err-extended-clause-reads g c = (
   c.check_secured.ensures.reads.0 + c.check_extend.ensures.reads.0,
-  MftReads-then g.D.Disk c.args.mft.now c.check_secured.new.mft c.check_extend.new.mft _ _ _ c.check_secured.ensures.reads.1 c.check_extend.ensures.reads.1 (le_refl _),
+  MftReads-then g.D.Disk c.args.mft.now c.check_secured.new.mft c.check_extend.new.mft _ _ _ c.check_secured.ensures.reads.1
+      c.check_extend.ensures.reads.1 (le_refl _),
 )
 
 pub returns-then-secured-clause-reads : goal.returns-then-secured-clause-reads
 returns-then-secured-clause-reads g c = (
   c.check_secured.ensures.reads.0 + c.check_extend.ensures.reads.0,
-  MftReads-then g.D.Disk c.args.mft.now c.check_secured.new.mft c.check_extend.new.mft _ _ _ c.check_secured.ensures.reads.1 c.check_extend.ensures.reads.1 (le_refl _),
+  MftReads-then g.D.Disk c.args.mft.now c.check_secured.new.mft c.check_extend.new.mft _ _ _ c.check_secured.ensures.reads.1
+      c.check_extend.ensures.reads.1 (le_refl _),
 )
 
 pub returns-else-secured-clause-reads : goal.returns-else-secured-clause-reads
 returns-else-secured-clause-reads g c = (
   c.check_secured.ensures.reads.0 + c.check_extend.ensures.reads.0,
-  MftReads-then g.D.Disk c.args.mft.now c.check_secured.new.mft c.check_extend.new.mft _ _ _ c.check_secured.ensures.reads.1 c.check_extend.ensures.reads.1 (le_refl _),
+  MftReads-then g.D.Disk c.args.mft.now c.check_secured.new.mft c.check_extend.new.mft _ _ _ c.check_secured.ensures.reads.1
+      c.check_extend.ensures.reads.1 (le_refl _),
 )

@@ -12,16 +12,20 @@ loop-attribute-init c = λ right. stands-all c.args.letters.now c.args.file.now 
 
 pub returns-then-is_in_extend : goal.returns-then-is_in_extend
 returns-then-is_in_extend c = λ right. (
-  λ _. stands-here c.args.letters.now (parts_held c.args.file.now) (attributes_left c.loop-attribute.attribute-iterator) (c.loop-attribute.invariant right)
-      (attribute_of c.in-Some.attribute) (attributes_left c.next.new.self) c.in-Some.ensures.steps c.is_in_extend.result c.is_in_extend.ensures
+  λ _. stands-here c.args.letters.now (parts_held c.args.file.now) (attributes_left c.loop-attribute.attribute-iterator)
+      (c.loop-attribute.invariant right)
+      (attribute_of c.in-Some.attribute) (attributes_left c.next.new.self)
+      c.in-Some.ensures.steps c.is_in_extend.result c.is_in_extend.ensures
       c.if-is_in_extend.true,
   λ _. refl,
 )
 
 pub loop-attribute-preserved : goal.loop-attribute-preserved
 loop-attribute-preserved c = λ right.
-    stands-next c.args.letters.now (parts_held c.args.file.now) (attributes_left c.loop-attribute.attribute-iterator) (c.loop-attribute.invariant right)
-    (attribute_of c.in-Some.attribute) (attributes_left c.next.new.self) c.in-Some.ensures.steps c.is_in_extend.result c.is_in_extend.ensures
+    stands-next c.args.letters.now (parts_held c.args.file.now) (attributes_left c.loop-attribute.attribute-iterator)
+    (c.loop-attribute.invariant right)
+    (attribute_of c.in-Some.attribute) (attributes_left c.next.new.self)
+    c.in-Some.ensures.steps c.is_in_extend.result c.is_in_extend.ensures
     c.if-is_in_extend.false
 
 pub returns : goal.returns

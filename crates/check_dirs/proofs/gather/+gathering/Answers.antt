@@ -8,7 +8,8 @@ use Rattle.index_tree.proofs.PlaceLaws.{child_in, item_in_node}
 use Rattle.std.specs.Prelude.{IsSome}
 use Rattle.check_dirs.specs.Gathered.{AreFew, TellsNode, TellsTree}
 use Rattle.check_dirs.specs.Records.{short_nodes}
-use Rattle.check_dirs.proofs.GatherLaws.{GathersFront, front_more, front_start, gathers_tree, lacks_bare, lacks_low, lacks_met, lacks_place, lacks_tree, own_more, tells_all, tells_leaf, tells_number}
+use Rattle.check_dirs.proofs.GatherLaws.{GathersFront, front_more, front_start, gathers_tree, lacks_bare, lacks_low, lacks_met, lacks_place}
+use Rattle.check_dirs.proofs.GatherLaws.{lacks_tree, own_more, tells_all, tells_leaf, tells_number}
 use Rattle.check_dirs.proofs.MetLaws.{few_met, more_met, some_met}
 use Rattle.check_dirs.proofs.ReadLaws.{at_record, fetched_none, fetched_some, is_long, is_short, no_record, refused}
 use Rattle.check_dirs.proofs.gather.+gathering.Goals as goal

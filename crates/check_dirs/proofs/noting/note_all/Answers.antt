@@ -21,11 +21,13 @@ loop-number-preserved g c =
     let before = c.loop-number.invariant in
     let number = c.loop-number.number in
     let same = view-kept g.D.Disk c.args.mft.now c.loop-number.mft _ before.reads in
-    let next = subst (λ (volume : VolumeView). WhereReadable volume (NotesBelow volume number c.loop-number.noting → NotesBelow volume (number + 1) c.note_file.new.noting)) same
+    let next = subst (λ (volume : VolumeView).
+    WhereReadable volume (NotesBelow volume number c.loop-number.noting → NotesBelow volume (number + 1) c.note_file.new.noting)) same
     c.in_ok-note_file.ensures.noted in
     record {
       noted = λ told readable. next told readable (before.noted told readable);
-      reads = MftReads-then g.D.Disk c.args.mft.now c.loop-number.mft c.note_file.new.mft _ 20678 _ before.reads c.note_file.ensures.reads (omega arith);
+      reads = MftReads-then g.D.Disk c.args.mft.now c.loop-number.mft c.note_file.new.mft _ 20678 _ before.reads
+          c.note_file.ensures.reads (omega arith);
       faults = c.in_ok-note_file.ensures.faults ∙ before.faults;
     }
 

@@ -21,8 +21,10 @@ returns-clause-noted g c = λ told readable below.
     let volume = view g.D.Disk c.args.mft.now in
     let number = c.args.number in
     let file = c.in-Some.file in
-    let header = subst (λ o. IfSome o (λ (f : BaseFile). HasBaseRecord volume number f.header)) c.in-Some.is (c.in_ok-found.ensures.header told) in
-    let parts = subst (λ o. IfSome o (λ (f : BaseFile). AreParts volume f.parts)) c.in-Some.is (c.in_ok-found.ensures.parts told readable) in
+    let header = subst (λ o. IfSome o (λ (f : BaseFile). HasBaseRecord volume number f.header)) c.in-Some.is
+    (c.in_ok-found.ensures.header told) in
+    let parts = subst (λ o. IfSome o (λ (f : BaseFile). AreParts volume f.parts)) c.in-Some.is
+    (c.in_ok-found.ensures.parts told readable) in
     let own = subst (λ o. IfSome o (λ (f : BaseFile). All (λ one. IsRecordOf volume number one.number) (held_of f.parts))) c.in-Some.is
     (c.in_ok-found.ensures.own told) in
     let same = subst (λ o. IfSome o (λ (f : BaseFile). file_number f.parts ≡ number)) c.in-Some.is c.in_ok-found.ensures.number in

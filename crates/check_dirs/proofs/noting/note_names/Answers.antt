@@ -10,7 +10,10 @@ use Rattle.check_dirs.proofs.NoteLaws.{NotesNames-none, file-more}
 use Rattle.check_dirs.proofs.noting.note_names.Goals as goal
 
 pub loop-held-init : goal.loop-held-init
-loop-held-init c = record { grows = omega arith; noted = λ view all. NotesNames-none view (reference_in c.args.file) c.args.names.now.items }
+loop-held-init c = record {
+  grows = omega arith;
+  noted = λ view all. NotesNames-none view (reference_in c.args.file) c.args.names.now.items;
+}
 
 pub loop-held-preserved : goal.loop-held-preserved
 loop-held-preserved c =
@@ -24,13 +27,16 @@ loop-held-preserved c =
       noted = λ view all.
           let right : IsHeldRight view one = subst (IsHeldRight view) (sym is) (All-get_or (IsHeldRight view) helds k one inside all) in
           let here = c.in_ok-note_record.ensures.noted view right in
-          file-more view (reference_in c.args.file) helds k one c.args.names.now.items c.loop-held.names.items c.note_record.new.names.items inside
+          file-more view (reference_in c.args.file) helds k one c.args.names.now.items c.loop-held.names.items
+          c.note_record.new.names.items inside
           (c.loop-held.invariant.noted view all)
-          (subst (λ (h : Held). NotesNames view (reference_in c.args.file) (parts_of h) c.loop-held.names.items c.note_record.new.names.items) is here);
+          (subst (λ (h : Held). NotesNames view (reference_in c.args.file)
+          (parts_of h) c.loop-held.names.items c.note_record.new.names.items) is here);
     }
 
 pub returns-clause-noted : goal.returns-clause-noted
 returns-clause-noted c = λ view all.
     let helds = held_of c.args.parts.now in
     subst (λ xs. NotesNames view (reference_in c.args.file) (flat_map parts_of xs) c.args.names.now.items c.loop-held.names.items)
-    (take_all c.loop-held.held-index helds (omega (arith, ap length c.records-held-items.ensures, c.loop-held-test.false))) (c.loop-held.invariant.noted view all)
+    (take_all c.loop-held.held-index helds (omega (arith, ap length c.records-held-items.ensures, c.loop-held-test.false)))
+    (c.loop-held.invariant.noted view all)

@@ -12,5 +12,6 @@ invariant-loop-place l = record {
   left : attributes_left l.attributes ≡ drop l.place (attributes l.held.block);
   grows : length l.fn.names.items ≤ length l.names.items;
   noted : (view : VolumeView) → IsHeldRight view l.held
-      → NotesNames view (reference_in l.file) (map (part_of l.held.number) (take l.place (attributes l.held.block))) l.fn.names.items l.names.items;
+      → NotesNames view (reference_in l.file) (map (part_of l.held.number) (take l.place (attributes l.held.block)))
+      l.fn.names.items l.names.items;
 }

@@ -12,7 +12,8 @@ stands note = note.directory == EXTEND
 none-more : (names : List NameNote) (k : ℕ) (d : NameNote) → k < length names → (get_or names k d).directory ≢ EXTEND
     → list_any stands (take k names) ≡ false → list_any stands (take (k + 1) names) ≡ false
 none-more names k d inside other before =
-    list_any_more stands names k d inside ∙ ap (λ b. b || stands (get_or names k d)) before ∙ ne_eqb (get_or names k d).directory EXTEND other
+    list_any_more stands names k d inside ∙ ap (λ b. b || stands (get_or names k d)) before
+    ∙ ne_eqb (get_or names k d).directory EXTEND other
 
 pub loop-note-preserved : goal.loop-note-preserved
 loop-note-preserved c =

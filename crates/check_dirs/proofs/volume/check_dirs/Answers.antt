@@ -10,11 +10,14 @@ first_wrong_index-checked-requires-clause-sound g c =
 
 pub returns-in-None-clause-tables : goal.returns-in-None-clause-tables
 returns-in-None-clause-tables g c =
-    let first = rw (c.resume-mft.ensures.stage, c.resume-mft.ensures.mounted, c.over-stage.ensures.image) at c.in_ok-checked.ensures.first in
+    let first = rw (c.resume-mft.ensures.stage, c.resume-mft.ensures.mounted, c.over-stage.ensures.image)
+    at c.in_ok-checked.ensures.first in
     tables-indexed (g.D.Disk.now c.args.disk.now) c.args.mounted c.in_ok-checked.field-0 c.requires.tables c.in-None.is first
 
 pub returns-in-Some-clause-err : goal.returns-in-Some-clause-err
 returns-in-Some-clause-err g c =
-    let first = rw (c.resume-mft.ensures.stage, c.resume-mft.ensures.mounted, c.over-stage.ensures.image) at c.in_ok-checked.ensures.first in
+    let first = rw (c.resume-mft.ensures.stage, c.resume-mft.ensures.mounted, c.over-stage.ensures.image)
+    at c.in_ok-checked.ensures.first in
     subst (IsIndexRefusal (g.D.Disk.now c.args.disk.now)) (sym c.refusal.ensures)
-    (refused-indexed (g.D.Disk.now c.args.disk.now) c.args.mounted c.in_ok-checked.field-0 c.in-Some.number c.requires.tables c.in-Some.is first)
+    (refused-indexed (g.D.Disk.now c.args.disk.now)
+    c.args.mounted c.in_ok-checked.field-0 c.in-Some.number c.requires.tables c.in-Some.is first)

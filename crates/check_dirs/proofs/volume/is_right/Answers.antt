@@ -27,7 +27,8 @@ check_file-requires-clause-held g c =
     let volume = view g.D.Disk c.args.mft.now in
     let file = c.in-Some.file in
     let same = view-kept g.D.Disk c.args.mft.now c.load_base.new.mft _ c.load_base.ensures.reads in
-    let number = subst (λ (o : Option BaseFile). IfSome o (λ one. file_number one.parts ≡ c.args.number)) c.in-Some.is c.in_ok-found.ensures.number in
+    let number = subst (λ (o : Option BaseFile). IfSome o (λ one. file_number one.parts ≡ c.args.number))
+    c.in-Some.is c.in_ok-found.ensures.number in
     subst (λ (v : VolumeView). IsTrue v.told → IsHeldFile v file.parts) (sym same) (λ told. record {
       readable = readable volume (c.requires.sound told);
       parts = subst (λ (o : Option BaseFile). IfSome o (λ one. AreParts volume one.parts)) c.in-Some.is
@@ -42,7 +43,8 @@ returns-clause-right g c =
     let volume = view g.D.Disk c.args.mft.now in
     let file = c.in-Some.file in
     let same = view-kept g.D.Disk c.args.mft.now c.load_base.new.mft _ c.load_base.ensures.reads in
-    let number = subst (λ (o : Option BaseFile). IfSome o (λ one. file_number one.parts ≡ c.args.number)) c.in-Some.is c.in_ok-found.ensures.number in
+    let number = subst (λ (o : Option BaseFile). IfSome o (λ one. file_number one.parts ≡ c.args.number))
+    c.in-Some.is c.in_ok-found.ensures.number in
     ok-weaker c.check_file.result (λ right tells told notes is_file.
     let header = subst (λ (o : Option BaseFile). IfSome o (λ one. HasBaseRecord volume c.args.number one.header)) c.in-Some.is
     (c.in_ok-found.ensures.header told) in
@@ -55,5 +57,6 @@ returns-clause-right g c =
 pub returns-clause-reads : goal.returns-clause-reads
 returns-clause-reads g c = (
   20678 + c.check_file.ensures.reads.0,
-  MftReads-then g.D.Disk c.args.mft.now c.load_base.new.mft c.check_file.new.mft _ _ _ c.load_base.ensures.reads c.check_file.ensures.reads.1 (le_refl _),
+  MftReads-then g.D.Disk c.args.mft.now c.load_base.new.mft c.check_file.new.mft _ _ _ c.load_base.ensures.reads
+      c.check_file.ensures.reads.1 (le_refl _),
 )

@@ -41,7 +41,8 @@ returns-clause-table g c = ok-weaker c.load_table.result (λ table same told com
     let new = c.read_table.new.into in
     let items = with_items_is c.in_ok-bytes.bytes new (omega (arith, c.read_table.auto.into, c.deref_mut.ensures.len)) in
     let is : IsPlainOf len (case_parts v) = (c.in_ok-right.ensures.right told come).0 c.if-not-right.false in
-    let piece = c.in_ok-right.ensures.bytes told come (omega (arith, c.deref_mut.ensures.len, c.in_ok-bytes.ensures)) c.if-not-right.false in
+    let piece = c.in_ok-right.ensures.bytes told come
+    (omega (arith, c.deref_mut.ensures.len, c.in_ok-bytes.ensures)) c.if-not-right.false in
     same ∙ c.deref.ensures.value ∙ items
     ∙ whole-piece (value_on v (case_parts v)) new piece (c.read_table.auto.into ∙ sym (length-plain v len (case_parts v) is)))
     c.load_table.ensures.ok

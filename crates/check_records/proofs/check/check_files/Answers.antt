@@ -10,7 +10,8 @@ returns-in_err-stored-clause-err g c =
     let first = c.in_ok-decide_files.ensures.reads in
     let p = err_from_is_err_and c.from_residual-in_err-stored.result c.from_residual-in_err-stored.ensures.1 in
     let refused = rw (first.stage.only_reads.image, first.mounted) at c.in_err-stored.ensures.err in
-    rw (p.1, p.2) (IsRefusalIf-weaker 10 v _ (λ told come. come-on v 1 5 c.args.facts.now come (c.in_ok-decide_files.ensures.ok told come)) refused)
+    rw (p.1, p.2) (IsRefusalIf-weaker 10 v _
+    (λ told come. come-on v 1 5 c.args.facts.now come (c.in_ok-decide_files.ensures.ok told come)) refused)
 
 pub returns-clause-ok : goal.returns-clause-ok
 returns-clause-ok g c = λ told come.

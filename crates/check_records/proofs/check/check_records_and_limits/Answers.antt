@@ -107,7 +107,8 @@ returns-clause-only_reads g c =
 
 pub returns-clause-fetched : goal.returns-clause-fetched
 returns-clause-fetched g c = λ contents is.
-    subst (λ d. g.D.Disk.fetched d ≤ g.D.Disk.fetched c.args.disk.now + check_reads (volume_in contents c.with_stored.result)) (search rules) (
+    subst (λ d. g.D.Disk.fetched d ≤ g.D.Disk.fetched c.args.disk.now + check_reads (volume_in contents c.with_stored.result))
+    (search rules) (
     let told = g.D.Disk.now c.args.disk.now in
     let start = c.over-stage.ensures.image in
     let scanned = c.in-Ok.scanned in

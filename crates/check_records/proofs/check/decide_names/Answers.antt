@@ -21,5 +21,6 @@ returns-in_err-refuse_first-2-clause-err c =
 
 pub returns-clause-ok : goal.returns-clause-ok
 returns-clause-ok c = λ view come.
-    c.in_ok-refuse_first-2.ensures.ok view (c.in_ok-refuse_first.ensures.ok view come.before (c.first_wrong_reference.ensures view come.noted))
+    c.in_ok-refuse_first-2.ensures.ok view
+    (c.in_ok-refuse_first.ensures.ok view come.before (c.first_wrong_reference.ensures view come.noted))
     (c.in_ok-first.ensures view come.noted)

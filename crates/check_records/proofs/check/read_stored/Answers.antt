@@ -12,7 +12,8 @@ returns-in_err-records-clause-err g c =
     let first = c.in_ok-clusters.ensures.reads in
     let p = err_from_is_err_and c.from_residual-in_err-records.result c.from_residual-in_err-records.ensures.1 in
     let refused = rw (first.stage.only_reads.image, first.mounted) at c.in_err-records.ensures.err in
-    rw (p.1, p.2) (IsRefusalIf-weaker 10 v _ (λ told come. come-on v 5 6 c.args.facts.now come (c.in_ok-clusters.ensures.ok told come)) refused)
+    rw (p.1, p.2) (IsRefusalIf-weaker 10 v _
+    (λ told come. come-on v 5 6 c.args.facts.now come (c.in_ok-clusters.ensures.ok told come)) refused)
 
 pub returns-in_err-decide_names-clause-err : goal.returns-in_err-decide_names-clause-err
 returns-in_err-decide_names-clause-err g c =

@@ -16,7 +16,8 @@ returns-clause-first g c told come long =
     (places-clusters v facts (length c.args.into.now) come long (omega arith)) in
     let enough : v.layout.clusters ≤ 8 * length c.read_start.new.into = omega (arith, long, c.read_start.auto.into) in
     c.first_wrong_cluster.ensures v (owners-come v facts come)
-    (HasClusterBytes-noted v c.written_len-written.result whole.0 whole.1 (c.written_len-written.ensures (cluster_bits v) notes)) read enough
+    (HasClusterBytes-noted v c.written_len-written.result whole.0 whole.1 (c.written_len-written.ensures (cluster_bits v) notes))
+    read enough
 
 pub returns-clause-bytes : goal.returns-clause-bytes
 returns-clause-bytes g c told come long =

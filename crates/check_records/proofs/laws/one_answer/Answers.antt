@@ -1,4 +1,5 @@
-use Rattle.check_records.proofs.AnswerLaws.{HoldBelow-not_refused, HoldsTables-exact, HoldsTables-not_refused, IsAccepted-not_refused, IsRefusal-exact}
+use Rattle.check_records.proofs.AnswerLaws.{HoldBelow-not_refused, HoldsTables-exact, HoldsTables-not_refused, IsAccepted-not_refused}
+use Rattle.check_records.proofs.AnswerLaws.{IsRefusal-exact}
 use Rattle.check_records.proofs.laws.one_answer.Goals as goal
 
 pub returns : goal.returns

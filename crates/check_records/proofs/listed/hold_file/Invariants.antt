@@ -20,5 +20,6 @@ invariant-loop-extension g l = record {
       → All (IsHeldIn (records_of (view g.D.Disk l.fn.mft))) l.held.items;
   held : IsTrue (view g.D.Disk l.fn.mft).told
       → All (λ (extension : Extension). IsRecordOf (view g.D.Disk l.fn.mft) l.fn.base.number extension.number) l.extensions
-      → all_parts l.held.items ≡ parts_of l.fn.base ++ parts_from (records_of (view g.D.Disk l.fn.mft)) l.fn.base.number (take l.extension-index l.extensions);
+      → all_parts l.held.items ≡ parts_of l.fn.base
+      ++ parts_from (records_of (view g.D.Disk l.fn.mft)) l.fn.base.number (take l.extension-index l.extensions);
 }

@@ -64,7 +64,8 @@ returns-in_default-2-clause-listed g c told shape listed own =
     ∙ sym c.in-Some-list_of.ensures in
     let first = view-kept g.D.Disk c.args.mft.now c.read_record.new.mft _ c.read_record.ensures.reads in
     let none = subst (λ o. IfNone o (¬ (IsPlacedList volume (part_of base.number a)))) c.in_default-2.is
-    (subst (λ (v : VolumeView). (n : ℕ) → IfNone c.in_ok-value.field-0 (¬ (IsPlacedList v (part_of n a)))) first c.in_ok-value.ensures.none base.number) in
+    (subst (λ (v : VolumeView). (n : ℕ) → IfNone c.in_ok-value.field-0 (¬ (IsPlacedList v (part_of n a))))
+    first c.in_ok-value.ensures.none base.number) in
     let refused : ¬ (HasRightList volume c.args.f (parts (records_of volume) c.args.f)) =
     λ right. none (right-placed volume base held its_listed a found
     (subst (λ n. HasRightList volume n (parts (records_of volume) n)) (sym number) right)) in
@@ -82,7 +83,8 @@ returns-in_default-2-clause-whole g c told shape listed own right =
     ∙ sym c.in-Some-list_of.ensures in
     let first = view-kept g.D.Disk c.args.mft.now c.read_record.new.mft _ c.read_record.ensures.reads in
     let none = subst (λ o. IfNone o (¬ (IsPlacedList volume (part_of base.number a)))) c.in_default-2.is
-    (subst (λ (v : VolumeView). (n : ℕ) → IfNone c.in_ok-value.field-0 (¬ (IsPlacedList v (part_of n a)))) first c.in_ok-value.ensures.none base.number) in
+    (subst (λ (v : VolumeView). (n : ℕ) → IfNone c.in_ok-value.field-0 (¬ (IsPlacedList v (part_of n a))))
+    first c.in_ok-value.ensures.none base.number) in
     let refused : ¬ (HasRightList volume c.args.f (parts (records_of volume) c.args.f)) =
     λ right. none (right-placed volume base held its_listed a found
     (subst (λ n. HasRightList volume n (parts (records_of volume) n)) (sym number) right)) in
@@ -100,7 +102,9 @@ returns-clause-listed g c told shape listed own =
     ∙ sym c.in-Some-list_of.ensures in
     let first = view-kept g.D.Disk c.args.mft.now c.read_record.new.mft _ c.read_record.ensures.reads in
     let own' = subst (λ n. AreExtensionsOf (records_of volume) n c.args.extensions.now) (sym number) own in
-    let some = subst (λ o. IfSome o (λ (value : Vec ℕ Global). IsPlacedList volume (part_of base.number a) × (value.items ≡ list_value volume (part_of base.number a))))
+    let some =
+    subst (λ o. IfSome o (λ (value : Vec ℕ Global). IsPlacedList volume (part_of base.number a)
+    × (value.items ≡ list_value volume (part_of base.number a))))
     c.in-Some-2.is
     (subst (λ (v : VolumeView). IsTrue v.told → (n : ℕ) → IfSome c.in_ok-value.field-0 (λ (value : Vec ℕ Global).
     IsPlacedList v (part_of n a) × (value.items ≡ list_value v (part_of n a)))) first c.in_ok-value.ensures.some told base.number) in
@@ -128,7 +132,9 @@ returns-clause-whole g c told shape listed own right =
     ∙ sym c.in-Some-list_of.ensures in
     let first = view-kept g.D.Disk c.args.mft.now c.read_record.new.mft _ c.read_record.ensures.reads in
     let own' = subst (λ n. AreExtensionsOf (records_of volume) n c.args.extensions.now) (sym number) own in
-    let some = subst (λ o. IfSome o (λ (value : Vec ℕ Global). IsPlacedList volume (part_of base.number a) × (value.items ≡ list_value volume (part_of base.number a))))
+    let some =
+    subst (λ o. IfSome o (λ (value : Vec ℕ Global). IsPlacedList volume (part_of base.number a)
+    × (value.items ≡ list_value volume (part_of base.number a))))
     c.in-Some-2.is
     (subst (λ (v : VolumeView). IsTrue v.told → (n : ℕ) → IfSome c.in_ok-value.field-0 (λ (value : Vec ℕ Global).
     IsPlacedList v (part_of n a) × (value.items ≡ list_value v (part_of n a)))) first c.in_ok-value.ensures.some told base.number) in
@@ -137,14 +143,17 @@ returns-clause-whole g c told shape listed own right =
     let short : length value ≤ 262144 = omega (arith, some.0.short, ap length is) in
     let second = view-kept g.D.Disk c.read_record.new.mft c.placed_value.new.mft _ c.placed_value.ensures.reads ∙ first in
     let is_base = base-held volume base held its_listed a found c.args.extensions.now shape own' in
-    let judged = subst (λ (v : VolumeView). IsTrue v.told → IsBaseHeld v base c.args.extensions.now → length value ≤ 262144 → NamesParts v base.number value
+    let judged = subst (λ (v : VolumeView). IsTrue v.told → IsBaseHeld v base c.args.extensions.now → length value ≤ 262144
+    → NamesParts v base.number value
     → IsTrue c.in_ok-verdict.verdict.whole ↔ AreWholeParts (cluster_bytes v.layout) base.number (parts (records_of v) base.number)) second
     c.in_ok-verdict.ensures.whole told is_base short
     (right-names volume base held its_listed a found value is
     (subst (λ n. HasRightList volume n (parts (records_of volume) n)) (sym number) right)) in
-    subst (λ n. IsTrue c.in_ok-verdict.verdict.whole ↔ AreWholeParts (cluster_bytes volume.layout) n (parts (records_of volume) n)) number judged
+    subst (λ n. IsTrue c.in_ok-verdict.verdict.whole
+    ↔ AreWholeParts (cluster_bytes volume.layout) n (parts (records_of volume) n)) number judged
 
 pub returns-clause-reads : goal.returns-clause-reads
 returns-clause-reads g c =
-    let two = MftReads-then g.D.Disk c.args.mft.now c.read_record.new.mft c.placed_value.new.mft 2 512 514 c.read_record.ensures.reads c.placed_value.ensures.reads (omega arith) in
+    let two = MftReads-then g.D.Disk c.args.mft.now c.read_record.new.mft c.placed_value.new.mft 2 512 514 c.read_record.ensures.reads
+    c.placed_value.ensures.reads (omega arith) in
     MftReads-then g.D.Disk c.args.mft.now c.placed_value.new.mft c.judge_held.new.mft 514 _ _ two c.judge_held.ensures.reads (omega arith)

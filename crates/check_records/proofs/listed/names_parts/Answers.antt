@@ -26,4 +26,5 @@ returns c = λ records all.
     ∙ ap (λ xs. entries_in records (all_parts xs)) c.deref.ensures.value in
     named-decided records (all_parts held) c.in_ok-wanted.wanted.items c.args.value.now c.in_ok-right.right is
     (omega (arith, c.requires, c.len.ensures, c.if-file-len.false))
-    (subst (λ xs. IsTrue c.in_ok-right.right ↔ NamesEach (map entry_shown xs) c.args.value.now) c.deref_mut.ensures.value c.in_ok-right.ensures)
+    (subst (λ xs. IsTrue c.in_ok-right.right ↔ NamesEach (map entry_shown xs) c.args.value.now)
+    c.deref_mut.ensures.value c.in_ok-right.ensures)

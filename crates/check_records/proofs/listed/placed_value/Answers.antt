@@ -15,7 +15,8 @@ returns-clause-some g c told n =
     ap (λ k. is_packed k a.flags) (sym c.kind.ensures) ∙ ap (λ f. is_packed c.kind.result f) (sym c.flags.ensures)
     ∙ sym c.is_packed.ensures ∙ c.if-is_packed.false in
     let lies : Lies volume (part_of n a) =
-    (c.in_ok-placed.ensures volume n (sym (ap (λ (m : Mounted). m.geometry.clusters) c.mounted.ensures)) (sym c.cluster_bytes-bytes.ensures)).0
+    (c.in_ok-placed.ensures volume n (sym (ap (λ (m : Mounted). m.geometry.clusters) c.mounted.ensures))
+    (sym c.cluster_bytes-bytes.ensures)).0
     c.if-not-placed.false in
     placed-some volume (part_of n a) c.in_ok-value.value plain lies (c.in_ok-value.ensures.value told n lies)
 
@@ -24,6 +25,7 @@ returns-clause-none g c n =
     let volume = view g.D.Disk c.args.mft.now in
     let a = attribute_of c.args.list.now in
     let lies : Lies volume (part_of n a) =
-    (c.in_ok-placed.ensures volume n (sym (ap (λ (m : Mounted). m.geometry.clusters) c.mounted.ensures)) (sym c.cluster_bytes-bytes.ensures)).0
+    (c.in_ok-placed.ensures volume n (sym (ap (λ (m : Mounted). m.geometry.clusters) c.mounted.ensures))
+    (sym c.cluster_bytes-bytes.ensures)).0
     c.if-not-placed.false in
     placed-none volume (part_of n a) c.in_ok-value.value (c.in_ok-value.ensures.long volume n lies)

@@ -38,7 +38,8 @@ returns-in-Ok-clause-value g c told n lies =
     let its_text = sym c.in-Some-runs.ensures in
     let r = lies-runs volume n a sizes text numbers its_text lies in (
       c.in-Ok.ensures.short,
-      c.in-Ok.ensures.value told r.0 r.1 (lies-first volume n a sizes text numbers its_text lies) (omega (arith, c.if-sizes-gt-MOST_BYTES.false))
+      c.in-Ok.ensures.value told r.0 r.1 (lies-first volume n a sizes text numbers its_text lies)
+          (omega (arith, c.if-sizes-gt-MOST_BYTES.false))
           ∙ sym (value-clusters volume n a sizes text numbers its_text r.0 r.1 lies),
     )
 

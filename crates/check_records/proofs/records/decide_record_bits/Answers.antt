@@ -16,7 +16,8 @@ returns-clause-first g c told come long =
     let notes = record-bits-come v facts come in
     let new = c.read_start.new.into in
     let size : 512 * c.cluster_sectors.result ≡ cluster_bytes v.layout = ap (λ k. 512 * k) c.cluster_sectors.ensures.sectors in
-    let count : c.count-records.result ≡ v.layout.count = c.count-records.ensures ∙ ap (λ (m : Mounted). length m.records) c.mounted.ensures in
+    let count : c.count-records.result ≡ v.layout.count =
+    c.count-records.ensures ∙ ap (λ (m : Mounted). length m.records) c.mounted.ensures in
     let has = HasRecordBits-room v _ _ size count ((c.has_room.ensures (record_bits v) notes).0 c.if-not-has_room.false) in
     let read = c.in_ok-read_start.ensures.read told (record_bits v) notes
     (places-records v facts (length c.args.into.now) come long (omega arith)) in
@@ -35,5 +36,6 @@ returns-then-not-has_room-clause-first g c told come long =
     let v = view g.D.Disk c.args.mft.now in
     let notes = record-bits-come v c.args.facts.now come in
     let size : 512 * c.cluster_sectors.result ≡ cluster_bytes v.layout = ap (λ k. 512 * k) c.cluster_sectors.ensures.sectors in
-    let count : c.count-records.result ≡ v.layout.count = c.count-records.ensures ∙ ap (λ (m : Mounted). length m.records) c.mounted.ensures in
+    let count : c.count-records.result ≡ v.layout.count =
+    c.count-records.ensures ∙ ap (λ (m : Mounted). length m.records) c.mounted.ensures in
     no-record-bits v (λ has. let yes = (c.has_room.ensures (record_bits v) notes).1 (HasRoomIn-bits v _ _ size count has) in absurd (cc))

@@ -37,7 +37,8 @@ loop-n-preserved g c =
     let n = c.loop-n.n in
     let inside : n < view.layout.count = omega arith in
     let yes : c.in_ok-right.right ≡ true = c.if-not-right.false in
-    let stored : IsTrue view.told → c.read_block.new.into ≡ view.block n = rw before.reads.only_reads.image at c.in_ok-read_block.ensures.read in
+    let stored : IsTrue view.told → c.read_block.new.into ≡ view.block n =
+    rw before.reads.only_reads.image at c.in_ok-read_block.ensures.read in
     record {
       shape = λ told. shape-more view n (before.shape told)
           (subst (λ b. IsTrue (is_in_use b) → IsWellFormed b) (stored told) (c.in_ok-right.ensures.shape.0 yes));
@@ -55,7 +56,8 @@ loop-n-preserved g c =
               case_table = same.streams.case_table ∙ before.volume.places.case_table;
             };
           };
-      reads = StageReads-then g.D.Disk c.args.stage.now c.loop-n.stage c.read_block.new.stage _ 2 _ before.reads c.in_ok-read_block.ensures.reads (omega arith);
+      reads = StageReads-then g.D.Disk c.args.stage.now c.loop-n.stage c.read_block.new.stage _ 2 _ before.reads
+          c.in_ok-read_block.ensures.reads (omega arith);
       faults = c.in_ok-read_block.ensures.faults ∙ before.faults;
     }
 

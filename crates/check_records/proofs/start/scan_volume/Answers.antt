@@ -18,7 +18,8 @@ returns-in_err-facts-clause-err g c =
     let p = err_from_is_err_and c.from_residual-in_err-facts.result c.from_residual-in_err-facts.ensures.1 in
     let layout : TableLayout = table_layout c.in_ok-table.table in
     let refused : IsRefusalOf (stage_view g.D.Disk c.find_table.new.stage layout) c.in_err-facts.field-0.0 =
-    subst (λ l. IsRefusalOf (stage_view g.D.Disk c.find_table.new.stage l) c.in_err-facts.field-0.0) c.blocks-2.ensures c.in_err-facts.ensures.err in
+    subst (λ l. IsRefusalOf (stage_view g.D.Disk c.find_table.new.stage l) c.in_err-facts.field-0.0)
+    c.blocks-2.ensures c.in_err-facts.ensures.err in
     rw (p.1, p.2) (IsRefusal-later (image g.D.Disk c.args.stage.now) layout c.in_err-facts.field-0.0
     (λ all told. let found = c.in_ok-table.ensures.ok all told in record { boot_clause = found.boot; table_clause = found.clause })
     (subst (λ i. IsRefusalOf (view_of (is_some i) (sector_in i) layout) c.in_err-facts.field-0.0)

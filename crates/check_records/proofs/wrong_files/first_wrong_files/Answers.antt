@@ -28,4 +28,5 @@ returns-clause-extents g c told of_volume note before =
     let listed = c.in_ok-listed.ensures.extents told (before Shape (omega arith)) right.spread lists in
     subst (λ size. IsLeastFailing (MeetsExtents (records_of volume) size) c.first_wrong_file.result) of_volume.cluster_bytes
     (c.first_wrong_file.ensures.volume volume lists right.unlisted
-    (subst (λ size. IsLeastFailing (MeetsListed (records_of volume) size) c.in_ok-listed.listed.extents) (sym of_volume.cluster_bytes) listed))
+    (subst (λ size. IsLeastFailing (MeetsListed (records_of volume) size) c.in_ok-listed.listed.extents)
+    (sym of_volume.cluster_bytes) listed))

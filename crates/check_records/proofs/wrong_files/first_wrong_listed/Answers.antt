@@ -15,7 +15,9 @@ use Rattle.list_laws.specs.Least.{least_of}
 use Rattle.record_notes.specs.Spread.{extensions_of}
 use Rattle.record_notes.specs.Unlisted.{MeetsListed}
 use Rattle.check_records.specs.Listed.{MeetsListedLists}
-use Rattle.check_records.proofs.ListedLoopLaws.{IsLeastSeen, JudgesExtents, JudgesLists, extents-decided, extents-seen, later-kept, least-more, least-none, least-rising, lists-decided, lists-met, lists-seen, noted-listed, noted-own, noted-rising}
+use Rattle.check_records.proofs.ListedLoopLaws.{IsLeastSeen, JudgesExtents, JudgesLists, extents-decided, extents-seen, later-kept}
+use Rattle.check_records.proofs.ListedLoopLaws.{least-more, least-none, least-rising, lists-decided, lists-met, lists-seen}
+use Rattle.check_records.proofs.ListedLoopLaws.{noted-listed, noted-own, noted-rising}
 use Rattle.list_laws.proofs.BoolLaws.{not-both}
 use Rattle.check_records.proofs.wrong_files.first_wrong_listed.Goals as goal
 
@@ -72,7 +74,8 @@ loop-f-preserved g c =
           least-more (MeetsListedLists volume) listed i None None verdict.listed inside
           (lists-decided volume n own verdict.listed judged told shape (noted-listed volume spread note i inside)
           (noted-own volume spread note n c.deref-rest.result.now own moved (its ∙ before.later note i (omega arith) inside)))
-          (λ _. refl) (λ wrong. absurd (not-both verdict.listed (not-false verdict.listed c.if-not-verdict.false) wrong)) (before.lists told shape note);
+          (λ _. refl) (λ wrong. absurd (not-both verdict.listed (not-false verdict.listed c.if-not-verdict.false) wrong))
+          (before.lists told shape note);
       extents = λ told shape note meets.
           let judged = subst (λ m. JudgesExtents volume m own verdict.whole) named
           (subst (λ v. JudgesExtents v f own verdict.whole) kept c.in_ok-verdict.ensures.whole) in
@@ -111,7 +114,8 @@ returns-then-not-verdict-clause-lists g c told shape note =
     (subst (λ v. JudgesLists v f own verdict.listed) kept c.in_ok-verdict.ensures.listed) in
     let decided = lists-decided volume n own verdict.listed judged told shape (noted-listed volume spread note i inside)
     (noted-own volume spread note n c.deref-rest.result.now own moved (its ∙ before.later note i (omega arith) inside)) in
-    let bad : ¬ (MeetsListedLists volume n) = λ meets. not-both verdict.listed (decided.1 meets) (not-true verdict.listed c.if-not-verdict.true) in
+    let bad : ¬ (MeetsListedLists volume n) =
+    λ meets. not-both verdict.listed (decided.1 meets) (not-true verdict.listed c.if-not-verdict.true) in
     lists-seen volume spread note (Some f)
     (subst (λ m. IsLeastSeen (MeetsListedLists volume) listed (Some m)) (sym named)
     (least-rising (MeetsListedLists volume) listed i (noted-rising volume spread note) inside (before.lists told shape note) bad))

@@ -8,4 +8,5 @@ unfolding line_of_draw
 returns-clause-line c = c.make_line.ensures
 
 pub returns-clause-sayable : goal.returns-clause-sayable
-returns-clause-sayable c = ok-sayable c.make_line.result (c.args.x / 2 ^ 33 / 1024 % 8) (c.args.x / 2 ^ 33 % 16) (c.args.x / 2 ^ 33 / 16 % 64) (c.args.x / 2 ^ 33 / 8192 % 256) c.make_line.ensures (omega arith) (omega arith) (omega arith)
+returns-clause-sayable c = ok-sayable c.make_line.result (c.args.x / 2 ^ 33 / 1024 % 8) (c.args.x / 2 ^ 33 % 16)
+    (c.args.x / 2 ^ 33 / 16 % 64) (c.args.x / 2 ^ 33 / 8192 % 256) c.make_line.ensures (omega arith) (omega arith) (omega arith)

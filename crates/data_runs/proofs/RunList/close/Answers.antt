@@ -8,7 +8,8 @@ pub returns-then-pending-eq0-clause-closed : goal.returns-then-pending-eq0-claus
 returns-then-pending-eq0-clause-closed c = sym (clusters_with-none c.args.self.now c.args.pending c.if-pending-eq0.true)
 
 pub append-requires-clause-total : goal.append-requires-clause-total
-append-requires-clause-total c = omega (arith, c.requires.total, length-clusters_with c.args.self.now c.args.pending, total-is c.args.self.now)
+append-requires-clause-total c =
+    omega (arith, c.requires.total, length-clusters_with c.args.self.now c.args.pending, total-is c.args.self.now)
 
 pub returns-then-pending-eq0-clause-apart : goal.returns-then-pending-eq0-clause-apart
 returns-then-pending-eq0-clause-apart c = subst AreApart (sym (c.requires.begun c.if-pending-eq0.true)) tt

@@ -4,7 +4,8 @@ use Rattle.std.specs.Prelude.{slice_index_or}
 use Rattle.ntfs_def.specs.declared.run_text.Run.{Run}
 use Rattle.ntfs_def.specs.Runs.{clusters_of, run_clusters}
 use Rattle.data_runs.specs.Pieces.{clusters_with, window}
-use Rattle.data_runs.proofs.PieceLaws.{reach-at, length-IsRunList, clusters_of-more, window-more, window-most, window-none, length-none, length-run_clusters, length-clusters_most}
+use Rattle.data_runs.proofs.PieceLaws.{reach-at, length-IsRunList, clusters_of-more, window-more, window-most, window-none}
+use Rattle.data_runs.proofs.PieceLaws.{length-none, length-run_clusters, length-clusters_most}
 use Rattle.data_runs.proofs.RunList.copy.Goals as goal
 
 abbrev none : Run
@@ -14,7 +15,8 @@ pub runs-init : goal.runs-init
 runs-init c = record {
   hold = c.requires.hold;
   at = sym length-none;
-  copied = sym (ap (λ w. clusters_with c.args.self.now c.args.pending.now ++ w) (window-none c.args.from c.args.to) ∙ append-nil (clusters_with c.args.self.now c.args.pending.now));
+  copied = sym (ap (λ w. clusters_with c.args.self.now c.args.pending.now ++ w) (window-none c.args.from c.args.to)
+      ∙ append-nil (clusters_with c.args.self.now c.args.pending.now));
 }
 
 pub part_of-piece-requires : goal.part_of-piece-requires
@@ -35,7 +37,8 @@ join-requires-clause-total c =
       length-run_clusters c.part_of-piece.result,
       window-most runs (i + 1) c.args.from c.args.to,
       c.requires.total,
-      length-append (window c.args.from c.args.to (clusters_of (take i runs))) (window (c.args.from - c.runs.at) (c.args.to - c.runs.at) (run_clusters (slice_index_or runs i none))),
+      length-append (window c.args.from c.args.to (clusters_of (take i runs)))
+          (window (c.args.from - c.runs.at) (c.args.to - c.runs.at) (run_clusters (slice_index_or runs i none))),
       length-append (clusters_with c.args.self.now c.args.pending.now) (window c.args.from c.args.to (clusters_of (take i runs))),
     )
 
@@ -46,7 +49,8 @@ overflow_add-at c =
       arith,
       more,
       c.runs.invariant.at,
-      length-append (clusters_of (take c.runs.run-index c.args.runs.now)) (run_clusters (slice_index_or c.args.runs.now c.runs.run-index none)),
+      length-append (clusters_of (take c.runs.run-index c.args.runs.now))
+          (run_clusters (slice_index_or c.args.runs.now c.runs.run-index none)),
       length-run_clusters (slice_index_or c.args.runs.now c.runs.run-index none),
       length-clusters_most c.args.runs.now (c.runs.run-index + 1),
       length-IsRunList c.args.runs.now c.requires.runs,
@@ -62,7 +66,10 @@ runs-preserved c =
       hold = c.in_ok-join.ensures.hold;
       at = omega (arith, more, c.runs.invariant.at, length-append (clusters_of (take i runs)) (run_clusters run), length-run_clusters run);
       copied = c.in_ok-join.ensures.joined ∙ ap (λ m. m ++ run_clusters c.part_of-piece.result) c.runs.invariant.copied
-          ∙ append_assoc (clusters_with c.args.self.now c.args.pending.now) (window c.args.from c.args.to (clusters_of (take i runs))) (run_clusters c.part_of-piece.result)
-          ∙ ap (λ w. clusters_with c.args.self.now c.args.pending.now ++ (window c.args.from c.args.to (clusters_of (take i runs)) ++ w)) c.part_of-piece.ensures.clusters
-          ∙ ap (λ w. clusters_with c.args.self.now c.args.pending.now ++ w) (sym (window-more runs i c.runs.at c.args.from c.args.to none c.runs-test.true c.runs.invariant.at));
+          ∙ append_assoc (clusters_with c.args.self.now c.args.pending.now) (window c.args.from c.args.to (clusters_of (take i runs)))
+          (run_clusters c.part_of-piece.result)
+          ∙ ap (λ w. clusters_with c.args.self.now c.args.pending.now ++ (window c.args.from c.args.to (clusters_of (take i runs)) ++ w))
+          c.part_of-piece.ensures.clusters
+          ∙ ap (λ w. clusters_with c.args.self.now c.args.pending.now ++ w)
+          (sym (window-more runs i c.runs.at c.args.from c.args.to none c.runs-test.true c.runs.invariant.at));
     }

@@ -2,7 +2,8 @@ use Rattle.std.proofs.Common.{◌≡◌, ◌+◌, ◌++◌, ◌^◌, [], length,
 use Rattle.ntfs_def.specs.declared.run_text.Run.{Run}
 use Rattle.ntfs_def.specs.Runs.{clusters_of, run_clusters}
 use Rattle.data_runs.specs.Pieces.{clusters_with, window, CanHold}
-use Rattle.data_runs.proofs.PieceLaws.{length-IsRunList, CanHold-none, clusters_with-none, length-window, length-none, clusters_of-none, length-clusters_with, length-run_clusters, with_run-of, total-is}
+use Rattle.data_runs.proofs.PieceLaws.{length-IsRunList, CanHold-none, clusters_with-none, length-window, length-none, clusters_of-none}
+use Rattle.data_runs.proofs.PieceLaws.{length-clusters_with, length-run_clusters, with_run-of, total-is}
 use Rattle.data_runs.proofs.RunList.with_run.Goals as goal
 
 abbrev none : Run
@@ -14,7 +15,15 @@ copy-requires-clause-hold c = subst (λ runs. CanHold runs none) (sym c.new-list
 pub copy-requires-clause-total : goal.copy-requires-clause-total
 copy-requires-clause-total c =
     let all = ap (λ runs. length (clusters_of runs)) c.runs-runs.ensures.runs in
-    omega (arith, ap (λ runs. length (clusters_with runs none)) c.new-list.ensures, length-clusters_with [] none, length-none, length-window 0 c.args.at (clusters_of c.runs-runs.result.now), length-IsRunList c.args.self.now c.runs-runs.ensures.limits, all)
+    omega (
+      arith,
+      ap (λ runs. length (clusters_with runs none)) c.new-list.ensures,
+      length-clusters_with [] none,
+      length-none,
+      length-window 0 c.args.at (clusters_of c.runs-runs.result.now),
+      length-IsRunList c.args.self.now c.runs-runs.ensures.limits,
+      all,
+    )
 
 pub join-requires-clause-total : goal.join-requires-clause-total
 join-requires-clause-total c =
@@ -62,8 +71,13 @@ copy-requires-2-clause-total c =
 
 pub returns-clause-run : goal.returns-clause-run
 returns-clause-run c =
-    let empty : clusters_with c.new-list.result none ≡ [] = ap (λ runs. clusters_with runs none) c.new-list.ensures ∙ clusters_with-none [] none refl ∙ clusters_of-none in
-    let copied = subst (λ runs. clusters_with c.copy.new.self c.copy.new.pending ≡ clusters_with c.new-list.result none ++ window 0 c.args.at (clusters_of runs)) c.runs-runs.ensures.runs c.in_ok-copy.ensures.copied in
-    let rest = subst (λ runs. clusters_with c.copy-2.new.self c.copy-2.new.pending ≡ clusters_with c.join.new.self c.join.new.pending ++ window (c.args.at + c.args.run.len) (2 ^ 62) (clusters_of runs)) c.runs-runs.ensures.runs c.in_ok-copy-2.ensures.copied in
-    c.in_ok-close.ensures.closed ∙ with_run-of (clusters_of c.args.self.now) c.args.at c.args.run (clusters_with c.new-list.result none) (clusters_with c.copy.new.self c.copy.new.pending) (clusters_with c.join.new.self c.join.new.pending) (clusters_with c.copy-2.new.self c.copy-2.new.pending)
+    let empty : clusters_with c.new-list.result none ≡ [] =
+    ap (λ runs. clusters_with runs none) c.new-list.ensures ∙ clusters_with-none [] none refl ∙ clusters_of-none in
+    let copied = subst (λ runs. clusters_with c.copy.new.self c.copy.new.pending ≡ clusters_with c.new-list.result none
+    ++ window 0 c.args.at (clusters_of runs)) c.runs-runs.ensures.runs c.in_ok-copy.ensures.copied in
+    let rest = subst (λ runs. clusters_with c.copy-2.new.self c.copy-2.new.pending ≡ clusters_with c.join.new.self c.join.new.pending
+    ++ window (c.args.at + c.args.run.len) (2 ^ 62) (clusters_of runs)) c.runs-runs.ensures.runs c.in_ok-copy-2.ensures.copied in
+    c.in_ok-close.ensures.closed ∙ with_run-of (clusters_of c.args.self.now) c.args.at c.args.run (clusters_with c.new-list.result none)
+    (clusters_with c.copy.new.self c.copy.new.pending) (clusters_with c.join.new.self c.join.new.pending)
+    (clusters_with c.copy-2.new.self c.copy-2.new.pending)
     (length-IsRunList c.args.self.now c.runs-runs.ensures.limits) empty copied c.in_ok-join.ensures.joined rest

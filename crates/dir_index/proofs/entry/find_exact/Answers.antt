@@ -13,7 +13,8 @@ pub find_first-requires-clause-rising : goal.find_first-requires-clause-rising
 find_first-requires-clause-rising g c told =
     let volume = view g.D.Disk c.args.mft.now in
     let some : 0 < cluster_bytes volume.layout = omega (arith, c.args.mft.now.stands.table.some) in
-    (can-seek volume c.args.file.now c.args.upcase.now (c.requires.held told) some c.in-Some.index c.in-Some.ensures.found c.in-Some.ensures.name
+    (can-seek volume c.args.file.now c.args.upcase.now
+    (c.requires.held told) some c.in-Some.index c.in-Some.ensures.found c.in-Some.ensures.name
     c.args.name.now).0
 
 pub returns-clause-found : goal.returns-clause-found

@@ -34,7 +34,8 @@ write_root-requires-clause-own g c told =
     let mid = view g.D.Disk c.replace_entry.new.mft in
     let file = c.args.file.now in
     let before = sym c.in_ok-root.ensures.disk.goes_on.told_image ∙ told in
-    let given = subst (GivesRoot old mid (file_number file) c.args.upcase (item_in c.args.entry.now)) c.in-Some.is (c.in_ok-root.ensures.replaced before) in
+    let given = subst (GivesRoot old mid (file_number file) c.args.upcase (item_in c.args.entry.now)) c.in-Some.is
+    (c.in_ok-root.ensures.replaced before) in
     own-still old mid file c.args.upcase (c.requires.held before) given.changes
 
 pub returns-clause-put : goal.returns-clause-put
@@ -51,7 +52,8 @@ returns-clause-put g c =
     subst (GivesRoot old mid (file_number file) table item) c.in-Some.is (c.in_ok-root.ensures.replaced told) in
     let same = same-parts old file table whole.directory in
     let still = c.in_ok-root.ensures.disk.goes_on.told_image ∙ told in
-    let is_root = subst (λ (i : IndexParts). map (λ part. content_value part.content) i.root ≡ Some given.root ∷ []) (sym same) given.is_root in
+    let is_root = subst (λ (i : IndexParts). map (λ part. content_value part.content) i.root ≡ Some given.root ∷ [])
+    (sym same) given.is_root in
     let written = w given.root still (subst (λ (l : TableLayout). IsApart l) (sym given.changes.layout) whole.apart)
     (whole-still old mid file table whole given.changes (c.in_ok-root.ensures.held told))
     (initialized-still old mid file table whole given.changes) is_root (ap length c.as_slice.ensures ∙ given.long) in

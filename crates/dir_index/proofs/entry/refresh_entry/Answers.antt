@@ -74,8 +74,10 @@ returns-clause-absent g c =
     let reads = e.reads.stage.only_reads in
     let same : view g.D.Disk b ≡ view g.D.Disk a = view-kept g.D.Disk a b 20678 e.reads in
     on_ok_weaker c.refresh_in.result (λ did.
-    let there = subst (λ (v : VolumeView). IsTrue v.told → ¬ (HasUnits v (file_number file) c.args.name.now) → StagesNothing g.D.Disk b last) same did in
-    let named = subst (λ n. IsTrue (view g.D.Disk a).told → ¬ (HasUnits (view g.D.Disk a) n c.args.name.now) → StagesNothing g.D.Disk b last)
+    let there = subst (λ (v : VolumeView). IsTrue v.told → ¬ (HasUnits v (file_number file) c.args.name.now)
+    → StagesNothing g.D.Disk b last) same did in
+    let named = subst (λ n. IsTrue (view g.D.Disk a).told → ¬ (HasUnits (view g.D.Disk a) n c.args.name.now)
+    → StagesNothing g.D.Disk b last)
     e.number there in
     (λ told none. let nothing = named told none in record { image = nothing.image ∙ reads.image; places = nothing.places ∙ reads.places }))
     c.refresh_in.ensures.absent

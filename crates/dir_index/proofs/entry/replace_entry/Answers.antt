@@ -24,7 +24,8 @@ pub replace_in-requires-clause-sorted : goal.replace_in-requires-clause-sorted
 replace_in-requires-clause-sorted g c told =
     let volume = view g.D.Disk c.args.mft.now in
     let some : 0 < cluster_bytes volume.layout = omega (arith, c.args.mft.now.stands.table.some) in
-    let can = can-replace volume c.args.file.now c.args.upcase (c.requires.held told) some c.in-Some.index c.in-Some.ensures.found c.in-Some.ensures.name in
+    let can = can-replace volume c.args.file.now c.args.upcase
+    (c.requires.held told) some c.in-Some.index c.in-Some.ensures.found c.in-Some.ensures.name in
     subst (λ root. HasSortedIndex (name_order (fold_of c.args.upcase)) is_name_key
     (short_nodes Names (records_found volume c.args.file.now c.in-Some.index)) (short_node Names root) 15)
     (sym (c.deref_mut.ensures.value ∙ c.in_ok-root.ensures.items)) can
@@ -50,12 +51,16 @@ returns-clause-replaced g c told =
     let last : c.from_vec.result ≡ new =
     c.from_vec.ensures ∙ ap (λ n. take n (new ++ drop (length new) c.in_ok-root.root.items)) size
     ∙ take-append new (drop (length new) c.in_ok-root.root.items) in
-    let by_index = subst (λ (i : IndexParts). ReplacesItem order is_name_key old mid i c.deref_mut.result.now new item) same (did.replaced told) in
-    let by_root = subst (λ root. ReplacesItem order is_name_key old mid (names_index old (file_number c.args.file.now)) root new item) was by_index in
+    let by_index = subst (λ (i : IndexParts). ReplacesItem order is_name_key old mid i c.deref_mut.result.now new item)
+    same (did.replaced told) in
+    let by_root = subst (λ root. ReplacesItem order is_name_key old mid (names_index old (file_number c.args.file.now)) root new item)
+    was by_index in
     record {
       root = index.root.now;
       is_root = (held-index old c.args.file.now c.args.upcase held some index c.in-Some.ensures.found c.in-Some.ensures.name).is_root;
-      replaces = subst (λ root. ReplacesItem order is_name_key old mid (names_index old (file_number c.args.file.now)) index.root.now root item) (sym last) by_root;
+      replaces =
+          subst (λ root. ReplacesItem order is_name_key old mid (names_index old (file_number c.args.file.now)) index.root.now root item)
+          (sym last) by_root;
       changes = subst (λ (i : IndexParts). ChangesStream old mid (spot_at i.records)) same (did.changes told);
       head = ap (take 16) last ∙ did.front ∙ ap (take 16) was;
       long = ap length last ∙ did.root ∙ ap length was;

@@ -5,7 +5,8 @@ use Rattle.ntfs_def.specs.declared.index.NodeForm.TheVariants.{Names}
 use Rattle.index_node.proofs.LayOutLaws.{entry_facts}
 use Rattle.index_node.proofs.ReplaceLaws.{item_len-one}
 use Rattle.dir_index.proofs.fresh.fresh_entry.Goals as goal
-use Rattle.dir_index.proofs.fresh.fresh_entry.Goals.{then-base-gt-MOST-via-then-base-gt-MOST, then-base-gt-MOST-via-else-base-gt-MOST+then-not-is_name_key}
+use Rattle.dir_index.proofs.fresh.fresh_entry.Goals.{then-base-gt-MOST-via-then-base-gt-MOST}
+use Rattle.dir_index.proofs.fresh.fresh_entry.Goals.{then-base-gt-MOST-via-else-base-gt-MOST+then-not-is_name_key}
 
 pub base_len-base-requires : goal.base_len-base-requires
 base_len-base-requires c = (entry_facts Names (has_child c.args.entry.now 0) c.args.entry.now c.requires).1

@@ -20,7 +20,8 @@ put_told-requires-clause-one c =
     let old = c.copy_from_slice.new.self in
     let long = c.copy_from_slice.ensures.len in
     alone-one entry old c.end_entry.new.bytes (has_child entry 0) c.requires.one (omega (arith, long, c.requires.base))
-    (λ k lt. ap (λ xs. get_or xs k 0) c.copy_from_slice.ensures.after ∙ get_or-take (length c.args.bytes.now) entry k 0 (omega (arith, lt, long)))
+    (λ k lt. ap (λ xs. get_or xs k 0) c.copy_from_slice.ensures.after
+    ∙ get_or-take (length c.args.bytes.now) entry k 0 (omega (arith, lt, long)))
     c.end_entry.ensures
 
 pub put_told-requires-clause-key : goal.put_told-requires-clause-key
@@ -29,7 +30,8 @@ put_told-requires-clause-key c =
     let old = c.copy_from_slice.new.self in
     let long = c.copy_from_slice.ensures.len in
     let same = alone-item entry old c.end_entry.new.bytes (has_child entry 0) c.requires.one (omega (arith, long, c.requires.base))
-    (λ k lt. ap (λ xs. get_or xs k 0) c.copy_from_slice.ensures.after ∙ get_or-take (length c.args.bytes.now) entry k 0 (omega (arith, lt, long)))
+    (λ k lt. ap (λ xs. get_or xs k 0) c.copy_from_slice.ensures.after
+    ∙ get_or-take (length c.args.bytes.now) entry k 0 (omega (arith, lt, long)))
     c.end_entry.ensures in
     subst (λ (x : Item). IsTrue (is_name_key x.key)) (sym same) c.requires.key
 
@@ -39,12 +41,16 @@ returns c =
     let old = c.copy_from_slice.new.self in
     let long = c.copy_from_slice.ensures.len in
     let same = alone-item entry old c.end_entry.new.bytes (has_child entry 0) c.requires.one (omega (arith, long, c.requires.base))
-    (λ k lt. ap (λ xs. get_or xs k 0) c.copy_from_slice.ensures.after ∙ get_or-take (length c.args.bytes.now) entry k 0 (omega (arith, lt, long)))
+    (λ k lt. ap (λ xs. get_or xs k 0) c.copy_from_slice.ensures.after
+    ∙ get_or-take (length c.args.bytes.now) entry k 0 (omega (arith, lt, long)))
     c.end_entry.ensures in
     let refreshed : RefreshesItem c.args.told.now (item_in entry) (item_in c.put_told.new.entry) =
     subst (λ x. RefreshesItem c.args.told.now x (item_in c.put_told.new.entry)) same c.put_told.ensures.refreshes in
     record {
-      short = record { one = c.put_told.ensures.one; short = omega (arith, c.put_told.ensures.long, c.end_entry.ensures.len, long, c.requires.short) };
+      short = record {
+        one = c.put_told.ensures.one;
+        short = omega (arith, c.put_told.ensures.long, c.end_entry.ensures.len, long, c.requires.short);
+      };
       named = name-key-kept c.args.told.now _ _ refreshed.key ∙ c.requires.key;
       refreshes = refreshed;
     }

@@ -26,6 +26,7 @@ pub returns-clause-rest : goal.returns-clause-rest
 returns-clause-rest c =
     let old = c.args.entry.now in
     outside-twice old c.put_u64-2.new.bytes c.put_u32.new.bytes 0x38 0x48 0x48 0x4C 0x38 0x4C
-    (outside-twice old c.put_u64.new.bytes c.put_u64-2.new.bytes 0x38 0x40 0x40 0x48 0x38 0x48 c.put_u64.ensures.rest c.put_u64-2.ensures.rest
+    (outside-twice old c.put_u64.new.bytes c.put_u64-2.new.bytes 0x38 0x40 0x40 0x48 0x38 0x48
+    c.put_u64.ensures.rest c.put_u64-2.ensures.rest
     (omega arith) (omega arith) (omega arith) (omega arith))
     c.put_u32.ensures.rest (omega arith) (omega arith) (omega arith) (omega arith)

@@ -16,9 +16,11 @@ returns-clause-times c =
     let accessed : u64_at all 0x30 ≡ get_or times 3 0 = search rules in
     let many : length times ≡ 4 = search rules in
     same_four
-    (before three all 0x30 0x38 0x18 c.put_u64-4.ensures.rest (omega arith) ∙ before two three 0x28 0x30 0x18 c.put_u64-3.ensures.rest (omega arith)
+    (before three all 0x30 0x38 0x18 c.put_u64-4.ensures.rest (omega arith)
+    ∙ before two three 0x28 0x30 0x18 c.put_u64-3.ensures.rest (omega arith)
     ∙ before one two 0x20 0x28 0x18 c.put_u64-2.ensures.rest (omega arith) ∙ created)
-    (before three all 0x30 0x38 0x20 c.put_u64-4.ensures.rest (omega arith) ∙ before two three 0x28 0x30 0x20 c.put_u64-3.ensures.rest (omega arith)
+    (before three all 0x30 0x38 0x20 c.put_u64-4.ensures.rest (omega arith)
+    ∙ before two three 0x28 0x30 0x20 c.put_u64-3.ensures.rest (omega arith)
     ∙ modified)
     (before three all 0x30 0x38 0x28 c.put_u64-4.ensures.rest (omega arith) ∙ changed)
     accessed

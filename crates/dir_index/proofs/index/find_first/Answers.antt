@@ -16,11 +16,14 @@ find-requires-clause-index g c r e =
     let index = c.args.index in
     let root = index.root.now in
     let (told, is) = told-records volume (index_held c.args.file.now index.name.now) r e in
-    subst (λ o. HasRisingIndex (λ x. g.C.Collation.order o x []) (g.C.Collation.valid o) (nodes_of c.new-names.result.form r) (node_in c.new-names.result.form root))
+    subst (λ o. HasRisingIndex (λ x. g.C.Collation.order o x []) (g.C.Collation.valid o) (nodes_of c.new-names.result.form r)
+    (node_in c.new-names.result.form root))
     (sym c.new-names.ensures.order)
-    (subst (λ (form : NodeForm). HasRisingIndex (λ x. g.C.Collation.order c.args.order x []) (g.C.Collation.valid c.args.order) (nodes_of form r) (node_in form root))
+    (subst (λ (form : NodeForm). HasRisingIndex (λ x. g.C.Collation.order c.args.order x []) (g.C.Collation.valid c.args.order)
+    (nodes_of form r) (node_in form root))
     (sym c.new-names.ensures.form)
-    (subst (λ (rs : ℕ → _). HasRisingIndex (λ x. g.C.Collation.order c.args.order x []) (g.C.Collation.valid c.args.order) (nodes_of Names rs) (node_in Names root))
+    (subst (λ (rs : ℕ → _). HasRisingIndex (λ x. g.C.Collation.order c.args.order x []) (g.C.Collation.valid c.args.order)
+    (nodes_of Names rs) (node_in Names root))
     is (c.requires.rising told)))
 
 pub returns-in-Ok-clause-found : goal.returns-in-Ok-clause-found
@@ -30,9 +33,11 @@ returns-in-Ok-clause-found g c told =
     let root = index.root.now in
     let r = records_found volume c.args.file.now index in
     let found = c.in-Ok.ensures.found r (records-told volume (index_held c.args.file.now index.name.now) told) in
-    subst (λ (form : NodeForm). Finds (λ x. g.C.Collation.order c.args.order x []) (g.C.Collation.valid c.args.order) (nodes_of form r) (node_in form root) c.in-Ok.found)
+    subst (λ (form : NodeForm). Finds (λ x. g.C.Collation.order c.args.order x []) (g.C.Collation.valid c.args.order) (nodes_of form r)
+    (node_in form root) c.in-Ok.found)
     c.new-names.ensures.form
-    (subst (λ o. Finds (λ x. g.C.Collation.order o x []) (g.C.Collation.valid o) (nodes_of c.new-names.result.form r) (node_in c.new-names.result.form root) c.in-Ok.found)
+    (subst (λ o. Finds (λ x. g.C.Collation.order o x []) (g.C.Collation.valid o) (nodes_of c.new-names.result.form r)
+    (node_in c.new-names.result.form root) c.in-Ok.found)
     c.new-names.ensures.order found)
 
 pub returns-in-Ok-clause-fetched : goal.returns-in-Ok-clause-fetched
@@ -44,9 +49,12 @@ returns-in-Ok-clause-fetched g c told node says depth s rising =
     let before = fetched_of g.D.Disk c.args.mft.now in
     let after = fetched_of g.D.Disk c.find.new.blocks.mft.now in
     let costs = c.find.ensures.fetched r (records-told volume (index_held c.args.file.now index.name.now) told) in
-    let bound = subst (λ (form : NodeForm). Costs 8 (λ x. g.C.Collation.order c.args.order x []) (g.C.Collation.valid c.args.order) (nodes_of form r) (node_in form root) before after)
+    let bound =
+    subst (λ (form : NodeForm). Costs 8 (λ x. g.C.Collation.order c.args.order x []) (g.C.Collation.valid c.args.order)
+    (nodes_of form r) (node_in form root) before after)
     c.new-names.ensures.form
-    (subst (λ o. Costs 8 (λ x. g.C.Collation.order o x []) (g.C.Collation.valid o) (nodes_of c.new-names.result.form r) (node_in c.new-names.result.form root) before after)
+    (subst (λ o. Costs 8 (λ x. g.C.Collation.order o x []) (g.C.Collation.valid o) (nodes_of c.new-names.result.form r)
+    (node_in c.new-names.result.form root) before after)
     c.new-names.ensures.order costs) node says depth s rising in
     search (rules, arith)
 
@@ -59,8 +67,11 @@ returns-clause-fetched g c told node says depth s rising =
     let before = fetched_of g.D.Disk c.args.mft.now in
     let after = fetched_of g.D.Disk c.find.new.blocks.mft.now in
     let costs = c.find.ensures.fetched r (records-told volume (index_held c.args.file.now index.name.now) told) in
-    let bound = subst (λ (form : NodeForm). Costs 8 (λ x. g.C.Collation.order c.args.order x []) (g.C.Collation.valid c.args.order) (nodes_of form r) (node_in form root) before after)
+    let bound =
+    subst (λ (form : NodeForm). Costs 8 (λ x. g.C.Collation.order c.args.order x []) (g.C.Collation.valid c.args.order)
+    (nodes_of form r) (node_in form root) before after)
     c.new-names.ensures.form
-    (subst (λ o. Costs 8 (λ x. g.C.Collation.order o x []) (g.C.Collation.valid o) (nodes_of c.new-names.result.form r) (node_in c.new-names.result.form root) before after)
+    (subst (λ o. Costs 8 (λ x. g.C.Collation.order o x []) (g.C.Collation.valid o) (nodes_of c.new-names.result.form r)
+    (node_in c.new-names.result.form root) before after)
     c.new-names.ensures.order costs) node says depth s rising in
     grind (arith, common_steps)

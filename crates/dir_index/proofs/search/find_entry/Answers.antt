@@ -16,14 +16,17 @@ pub find_first-requires-clause-rising : goal.find_first-requires-clause-rising
 find_first-requires-clause-rising g c told =
     let volume = view g.D.Disk c.args.mft.now in
     let some : 0 < cluster_bytes volume.layout = omega (arith, c.args.mft.now.stands.table.some) in
-    (can-seek volume c.args.file.now c.args.upcase.now (c.requires.held told) some c.args.index c.requires.found c.requires.name c.args.name.now).0
+    (can-seek volume c.args.file.now c.args.upcase.now
+    (c.requires.held told) some c.args.index c.requires.found c.requires.name c.args.name.now).0
 
 pub returns-in_err-exact-clause-fetched : goal.returns-in_err-exact-clause-fetched
 returns-in_err-exact-clause-fetched g c told has =
     let volume = view g.D.Disk c.args.mft.now in
     let some : 0 < cluster_bytes volume.layout = omega (arith, c.args.mft.now.stands.table.some) in
-    let costs = exact-costs volume c.args.file.now c.args.upcase.now (c.requires.held told) some c.args.index c.requires.found c.requires.name
-    c.args.name.now has (fetched_of g.D.Disk c.args.mft.now) (fetched_of g.D.Disk c.find_first.new.mft) (c.find_first.ensures.fetched told) in
+    let costs = exact-costs volume c.args.file.now c.args.upcase.now
+    (c.requires.held told) some c.args.index c.requires.found c.requires.name
+    c.args.name.now has (fetched_of g.D.Disk c.args.mft.now) (fetched_of g.D.Disk c.find_first.new.mft)
+    (c.find_first.ensures.fetched told) in
     MftReads-within g.D.Disk c.args.mft.now c.find_first.new.mft _ _ c.find_first.ensures.reads.1 (omega (arith, costs))
 
 pub returns-then-is_some-clause-found : goal.returns-then-is_some-clause-found
@@ -37,8 +40,10 @@ pub returns-then-is_some-clause-fetched : goal.returns-then-is_some-clause-fetch
 returns-then-is_some-clause-fetched g c told has =
     let volume = view g.D.Disk c.args.mft.now in
     let some : 0 < cluster_bytes volume.layout = omega (arith, c.args.mft.now.stands.table.some) in
-    let costs = exact-costs volume c.args.file.now c.args.upcase.now (c.requires.held told) some c.args.index c.requires.found c.requires.name
-    c.args.name.now has (fetched_of g.D.Disk c.args.mft.now) (fetched_of g.D.Disk c.find_first.new.mft) (c.find_first.ensures.fetched told) in
+    let costs = exact-costs volume c.args.file.now c.args.upcase.now
+    (c.requires.held told) some c.args.index c.requires.found c.requires.name
+    c.args.name.now has (fetched_of g.D.Disk c.args.mft.now) (fetched_of g.D.Disk c.find_first.new.mft)
+    (c.find_first.ensures.fetched told) in
     MftReads-within g.D.Disk c.args.mft.now c.find_first.new.mft _ _ c.find_first.ensures.reads.1 (omega (arith, costs))
 
 pub find_first-requires-2-clause-rising : goal.find_first-requires-2-clause-rising
@@ -50,7 +55,8 @@ find_first-requires-2-clause-rising g c =
     let name = c.args.name.now in
     let some : 0 < cluster_bytes volume.layout = omega (arith, c.args.mft.now.stands.table.some) in
     let kept = view-kept g.D.Disk c.args.mft.now c.find_first.new.mft _ c.find_first.ensures.reads.1 in
-    subst (λ (v : VolumeView). IsTrue v.told → CanSeek (folded_order (fold_of table) name) (records_found v file index) index.root.now) (sym kept)
+    subst (λ (v : VolumeView). IsTrue v.told → CanSeek (folded_order (fold_of table) name) (records_found v file index) index.root.now)
+    (sym kept)
     (λ told. (can-seek volume file table (c.requires.held told) some index c.requires.found c.requires.name name).1)
 
 pub returns-clause-found : goal.returns-clause-found
@@ -63,7 +69,8 @@ returns-clause-found g c =
     let some : 0 < cluster_bytes volume.layout = omega (arith, c.args.mft.now.stands.table.some) in
     let kept = view-kept g.D.Disk c.args.mft.now c.find_first.new.mft _ c.find_first.ensures.reads.1 in
     ok-weaker c.find_first-2.result (λ found seeks told.
-    second-said volume file table (c.requires.held told) some index c.requires.found c.requires.name name c.in_ok-exact.exact found (search rules)
+    second-said volume file table (c.requires.held told)
+    some index c.requires.found c.requires.name name c.in_ok-exact.exact found (search rules)
     (c.in_ok-exact.ensures.found told)
     (subst (λ (v : VolumeView). IsTrue v.told → Seeks (folded_order (fold_of table) name) (records_found v file index) index.root.now found)
     kept seeks told))
@@ -72,7 +79,8 @@ returns-clause-found g c =
 pub returns-clause-reads : goal.returns-clause-reads
 returns-clause-reads g c = (
   c.find_first.ensures.reads.0 + c.find_first-2.ensures.reads.0,
-  MftReads-then g.D.Disk c.args.mft.now c.find_first.new.mft c.find_first-2.new.mft _ _ _ c.find_first.ensures.reads.1 c.find_first-2.ensures.reads.1 (omega arith),
+  MftReads-then g.D.Disk c.args.mft.now c.find_first.new.mft c.find_first-2.new.mft _ _ _ c.find_first.ensures.reads.1
+      c.find_first-2.ensures.reads.1 (omega arith),
 )
 
 pub returns-clause-fetched : goal.returns-clause-fetched
@@ -93,7 +101,8 @@ returns-clause-fetched g c told has =
     (subst (λ (v : VolumeView). IsTrue v.told
     → SeekCosts 8 (folded_order (fold_of table) name) (records_found v file index) index.root.now between after)
     kept c.find_first-2.ensures.fetched told) in
-    MftReads-then g.D.Disk c.args.mft.now c.find_first.new.mft c.find_first-2.new.mft (8 * has.index.walks.depth) (8 * has.index.walks.depth) _
+    MftReads-then g.D.Disk c.args.mft.now c.find_first.new.mft c.find_first-2.new.mft (8 * has.index.walks.depth)
+    (8 * has.index.walks.depth) _
     (MftReads-within g.D.Disk c.args.mft.now c.find_first.new.mft _ _ c.find_first.ensures.reads.1 one)
     (MftReads-within g.D.Disk c.find_first.new.mft c.find_first-2.new.mft _ _ c.find_first-2.ensures.reads.1 two)
     (omega arith)

@@ -20,6 +20,8 @@ pub returns-clause-links : goal.returns-clause-links
 returns-clause-links g c =
     let volume = view g.D.Disk c.args.mft.now in
     ok-weaker c.links_of.result (λ links is told.
-    is ∙ ap (filter_map link_in) c.deref.ensures.value ∙ sym (walk-said volume c.args.file.now c.args.upcase (c.requires.held told) (omega (arith, c.args.mft.now.stands.table.some)) c.in-Some.index
+    is ∙ ap (filter_map link_in) c.deref.ensures.value
+    ∙ sym (walk-said volume c.args.file.now c.args.upcase (c.requires.held told)
+    (omega (arith, c.args.mft.now.stands.table.some)) c.in-Some.index
     c.in-Some.ensures.found c.in-Some.ensures.name c.in_ok-entries.entries.items (c.in_ok-entries.ensures.walked told)))
     c.links_of.ensures.links

@@ -40,7 +40,8 @@ returns-clause-found g c =
 pub returns-clause-reads : goal.returns-clause-reads
 returns-clause-reads g c = (
   20678 + c.lookup_in.ensures.reads.0,
-  MftReads-then g.D.Disk c.args.mft.now c.load.new.mft c.lookup_in.new.mft _ _ _ c.load.ensures.reads c.lookup_in.ensures.reads.1 (omega arith),
+  MftReads-then g.D.Disk c.args.mft.now c.load.new.mft c.lookup_in.new.mft _ _ _ c.load.ensures.reads
+      c.lookup_in.ensures.reads.1 (omega arith),
 )
 
 pub returns-clause-fetched : goal.returns-clause-fetched

@@ -63,8 +63,14 @@ returns c =
     let b : List ℕ = sought_units c.args.name.now c.args.b.now in
     let fold = fold_of c.args.upcase.now in
     let i = c.loop-place.place in
-    let all : i ≡ min (length a) (length b) = omega
-    (arith, c.loop-place-test.false, c.loop-place.auto.place-end, c.min-place-end.ensures, c.unit_count-units.ensures, c.unit_count-others.ensures) in
+    let all : i ≡ min (length a) (length b) = omega (
+      arith,
+      c.loop-place-test.false,
+      c.loop-place.auto.place-end,
+      c.min-place-end.ensures,
+      c.unit_count-units.ensures,
+      c.unit_count-others.ensures,
+    ) in
     c.cmp.ensures
     ∙ ap (λ n. nat_cmp n c.unit_count-others.result) c.unit_count-units.ensures
     ∙ ap (λ n. nat_cmp (length a) n) c.unit_count-others.ensures

@@ -102,7 +102,8 @@ returns-clause-places g c =
     record {
       holders = part.holder ∷ [];
       few = omega arith;
-      own = λ told. All-one (λ n. IsRecordOf old c.args.number n) part.holder (holder-own old c.args.number file part (c.in_ok-file.ensures.own told)
+      own = λ told. All-one (λ n. IsRecordOf old c.args.number n) part.holder
+          (holder-own old c.args.number file part (c.in_ok-file.ensures.own told)
           (at-among (parts_held file) c.in-Some.first.index part c.in-Some.ensures.at));
       places = record {
         only = λ sector there. elim (either c.write_bytes.result c.write_bytes.ensures.stages c.write_bytes.ensures.kept) [
@@ -112,7 +113,8 @@ returns-clause-places g c =
               c.load.new.mft c.write_bytes.new.mft)) c.in-Some.ensures.at held in
               elim (stages.places.only sector there) [
                 | inl before ↦ inl (was sector before)
-                | inr new ↦ inr (Contains-flat_map (record_places (mounted_layout c.args.mft.now.mounted)) (part.holder ∷ []) part.holder sector (Contains-head part.holder [])
+                | inr new ↦ inr (Contains-flat_map (record_places (mounted_layout c.args.mft.now.mounted))
+                    (part.holder ∷ []) part.holder sector (Contains-head part.holder [])
                     (subst (λ (m : Mounted). Contains (record_places (mounted_layout m) part.holder) sector) reads.mounted new))
               ]
           | inr kept ↦ inl (was sector (subst (λ (all : List ℕ). Contains all sector) kept.places there))

@@ -14,7 +14,8 @@ use Rattle.file_changes.proofs.StagedLaws.{few-none}
 use Rattle.file_changes.proofs.attributes.set_attributes.Goals as goal
 
 pub refresh_names-requires-clause-inside : goal.refresh_names-requires-clause-inside
-refresh_names-requires-clause-inside g c = subst (λ (m : Mounted). c.args.number < length m.records) (sym c.set_node.ensures.disk.mounted) c.requires.inside
+refresh_names-requires-clause-inside g c =
+    subst (λ (m : Mounted). c.args.number < length m.records) (sym c.set_node.ensures.disk.mounted) c.requires.inside
 
 pub refresh_names-requires-clause-mirror : goal.refresh_names-requires-clause-mirror
 refresh_names-requires-clause-mirror g c = subst (λ (m : Mounted). IsMirrorInside m) (sym c.set_node.ensures.disk.mounted) c.requires.mirror
@@ -32,13 +33,15 @@ returns-in_err-set_node-clause-places g c told =
     let old = view g.D.Disk c.args.mft.now in
     let f = c.args.number in
     let names = names_of (records_of old) f in
-    few-none g.D.Disk (4 + 12 * length names) (λ sector. IsOfFile old f sector ⊎ IsOfNames old names sector) c.args.mft.now c.set_node.new.mft
+    few-none g.D.Disk (4 + 12 * length names) (λ sector. IsOfFile old f sector ⊎ IsOfNames old names sector)
+    c.args.mft.now c.set_node.new.mft
     c.in_err-set_node.ensures.kept.places
 
 pub returns-clause-set : goal.returns-clause-set
 returns-clause-set g c =
     on_ok_weaker c.refresh_names.result (sets-then g.D.Disk c.args.number c.args.times.now c.args.flags c.args.mft.now c.set_node.new.mft
-    c.requires.volume c.requires.can c.set_node.ensures.disk c.in_ok-set_node.ensures.set c.refresh_names.new.mft) c.refresh_names.ensures.told
+    c.requires.volume c.requires.can c.set_node.ensures.disk c.in_ok-set_node.ensures.set c.refresh_names.new.mft)
+    c.refresh_names.ensures.told
 
 pub returns-clause-places : goal.returns-clause-places
 returns-clause-places g c =

@@ -12,5 +12,6 @@ attr-requires c = slice_get_within (parts_held c.args.file.now) c.in-Some.first.
 
 pub returns-in-Some : goal.returns-in-Some
 returns-in-Some c =
-    let its = subst (λ o. IsSomeAnd o (λ (part : Part). part ≡ part_of part.holder (attribute_of c.attr.result))) c.in-Some.ensures.at c.attr.ensures.part in
+    let its = subst (λ o. IsSomeAnd o (λ (part : Part). part ≡ part_of part.holder (attribute_of c.attr.result)))
+    c.in-Some.ensures.at c.attr.ensures.part in
     c.sizes_of.ensures ∙ sym (ap (λ (part : Part). content_sizes part.content) its) ∙ sym (ap stream_sizes c.in-Some.ensures.is_first)

@@ -14,19 +14,22 @@ set_attributes-requires-clause-inside g c =
     subst (λ (m : Mounted). c.args.number < length m.records) (sym c.overwrite.ensures.disk.mounted) c.requires.inside
 
 pub set_attributes-requires-clause-mirror : goal.set_attributes-requires-clause-mirror
-set_attributes-requires-clause-mirror g c = subst (λ (m : Mounted). IsMirrorInside m) (sym c.overwrite.ensures.disk.mounted) c.requires.mirror
+set_attributes-requires-clause-mirror g c =
+    subst (λ (m : Mounted). IsMirrorInside m) (sym c.overwrite.ensures.disk.mounted) c.requires.mirror
 
 pub set_attributes-requires-clause-sound : goal.set_attributes-requires-clause-sound
 set_attributes-requires-clause-sound g c = c.overwrite.ensures.disk.broken ∙ c.requires.sound
 
 pub set_attributes-requires-clause-volume : goal.set_attributes-requires-clause-volume
 set_attributes-requires-clause-volume g c =
-    in-use g.D.Disk c.args.file.now c.args.found.now c.args.number c.args.at c.args.bytes.now c.args.mft.now c.overwrite.new.mft c.requires.volume
+    in-use g.D.Disk c.args.file.now c.args.found.now c.args.number c.args.at c.args.bytes.now c.args.mft.now
+    c.overwrite.new.mft c.requires.volume
     c.look_at_names.ensures c.overwrite.ensures.disk c.in_ok-overwrite.ensures.written c.requires.can
 
 pub set_attributes-requires-clause-can : goal.set_attributes-requires-clause-can
 set_attributes-requires-clause-can g c =
-    can-write g.D.Disk c.args.file.now c.args.found.now c.args.number c.args.at c.args.bytes.now c.args.mft.now c.overwrite.new.mft c.requires.volume
+    can-write g.D.Disk c.args.file.now c.args.found.now c.args.number c.args.at c.args.bytes.now c.args.mft.now
+    c.overwrite.new.mft c.requires.volume
     c.look_at_names.ensures c.overwrite.ensures.disk c.in_ok-overwrite.ensures.written c.requires.can
 
 pub returns-in_err-overwrite-clause-places : goal.returns-in_err-overwrite-clause-places
@@ -48,7 +51,8 @@ returns-clause-places g c =
 
 pub returns-clause-disk : goal.returns-clause-disk
 returns-clause-disk g c =
-    KeepsDisk-then g.D.Disk c.args.mft.now c.overwrite.new.mft c.set_attributes.new.mft c.overwrite.ensures.disk c.set_attributes.ensures.disk
+    KeepsDisk-then g.D.Disk c.args.mft.now c.overwrite.new.mft c.set_attributes.new.mft c.overwrite.ensures.disk
+    c.set_attributes.ensures.disk
 
 pub returns-clause-faults : goal.returns-clause-faults
 returns-clause-faults g c =

@@ -12,8 +12,10 @@ returns-clause-refreshed g c =
     let new = view g.D.Disk c.refresh_entry.new.mft in
     let dir = c.args.link.now.parent in
     on_ok_weaker c.refresh_entry.result (λ did told.
-    subst (λ (units : List ℕ). IsTrue old.told → HasUnits old dir units → RefreshesEntry old new dir units c.args.told.now) c.as_slice.ensures did
+    subst (λ (units : List ℕ). IsTrue old.told → HasUnits old dir units → RefreshesEntry old new dir units c.args.told.now)
+    c.as_slice.ensures did
     told (c.requires.can told).named) c.refresh_entry.ensures.refreshed
 
 pub returns-clause-places : goal.returns-clause-places
-returns-clause-places g c told = few-entry g.D.Disk c.args.link.now.parent c.args.mft.now c.refresh_entry.new.mft c.refresh_entry.ensures.places told
+returns-clause-places g c told =
+    few-entry g.D.Disk c.args.link.now.parent c.args.mft.now c.refresh_entry.new.mft c.refresh_entry.ensures.places told

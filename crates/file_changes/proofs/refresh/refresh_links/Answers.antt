@@ -12,7 +12,8 @@ pub loop-link-init : goal.loop-link-init
 loop-link-init g c = goes-none g.D.Disk c.args.told.now c.args.links.now c.args.mft.now c.requires.can
 
 pub refresh_link-requires-clause-mirror : goal.refresh_link-requires-clause-mirror
-refresh_link-requires-clause-mirror g c = subst (λ (m : Mounted). IsMirrorInside m) (sym c.loop-link.invariant.disk.mounted) c.requires.mirror
+refresh_link-requires-clause-mirror g c =
+    subst (λ (m : Mounted). IsMirrorInside m) (sym c.loop-link.invariant.disk.mounted) c.requires.mirror
 
 pub refresh_link-requires-clause-sound : goal.refresh_link-requires-clause-sound
 refresh_link-requires-clause-sound g c = c.loop-link.invariant.disk.broken ∙ c.requires.sound
@@ -27,9 +28,11 @@ returns-in_err-refresh_link-clause-places g c told =
     let k = c.loop-link.link-index in
     let n = length c.args.links.now in
     let below : k < n = c.loop-link-test.true in
-    few-more g.D.Disk (12 * (k + 1)) (12 * n) (IsOfLinks (view g.D.Disk c.args.mft.now) c.args.links.now) (IsOfLinks (view g.D.Disk c.args.mft.now) c.args.links.now)
+    few-more g.D.Disk (12 * (k + 1)) (12 * n) (IsOfLinks (view g.D.Disk c.args.mft.now) c.args.links.now)
+    (IsOfLinks (view g.D.Disk c.args.mft.now) c.args.links.now)
     c.args.mft.now c.refresh_link.new.mft
-    (staged-step g.D.Disk c.args.told.now c.args.links.now k c.args.mft.now c.loop-link.mft c.link-item.result c.loop-link-test.true c.link-item.is
+    (staged-step g.D.Disk c.args.told.now c.args.links.now k c.args.mft.now c.loop-link.mft c.link-item.result
+    c.loop-link-test.true c.link-item.is
     c.loop-link.invariant c.refresh_link.new.mft c.refresh_link.ensures.places told) (omega (arith, below)) (λ s h. h)
 
 pub returns-in_err-refresh_link-clause-disk : goal.returns-in_err-refresh_link-clause-disk
@@ -44,12 +47,15 @@ loop-link-preserved g c =
 
 pub returns-clause-refreshed : goal.returns-clause-refreshed
 returns-clause-refreshed g c =
-    goes-all g.D.Disk c.args.told.now c.args.links.now c.loop-link.link-index c.args.mft.now c.loop-link.mft c.loop-link-test.false c.loop-link.invariant
+    goes-all g.D.Disk c.args.told.now c.args.links.now c.loop-link.link-index c.args.mft.now c.loop-link.mft
+    c.loop-link-test.false c.loop-link.invariant
 
 pub returns-clause-places : goal.returns-clause-places
 returns-clause-places g c told =
-    few-more g.D.Disk (12 * c.loop-link.link-index) (12 * length c.args.links.now) (IsOfLinks (view g.D.Disk c.args.mft.now) c.args.links.now)
-    (IsOfLinks (view g.D.Disk c.args.mft.now) c.args.links.now) c.args.mft.now c.loop-link.mft (c.loop-link.invariant.staged told) (omega arith) (λ s h. h)
+    few-more g.D.Disk (12 * c.loop-link.link-index) (12 * length c.args.links.now)
+    (IsOfLinks (view g.D.Disk c.args.mft.now) c.args.links.now)
+    (IsOfLinks (view g.D.Disk c.args.mft.now) c.args.links.now) c.args.mft.now c.loop-link.mft
+    (c.loop-link.invariant.staged told) (omega arith) (λ s h. h)
 
 pub returns-clause-disk : goal.returns-clause-disk
 returns-clause-disk g c = c.loop-link.invariant.disk

@@ -53,11 +53,15 @@ loop-attribute-preserved c =
     let steps = c.in-Some.ensures.steps in
     let count = c.loop-attribute.standards + c.from-standards.result in
     record {
-      to = λ n right. inv.to n (AreRight-more c.args.base n c.loop-attribute.least c.loop-attribute.standards c.kind-least.result count _ rest x steps
-          c.kind-least.ensures (one_of c.from-standards.result c.kind-least.result count c.loop-attribute.standards n x c.from-standards.ensures c.kind-least.ensures refl)
+      to = λ n right.
+          inv.to n (AreRight-more c.args.base n c.loop-attribute.least c.loop-attribute.standards c.kind-least.result count _ rest x steps
+          c.kind-least.ensures (one_of c.from-standards.result c.kind-least.result count c.loop-attribute.standards n x
+          c.from-standards.ensures c.kind-least.ensures refl)
           ((c.is_right_next.ensures n).0 c.if-not-is_right_next.false) right);
-      from = λ n right. AreRight-less c.args.base n c.loop-attribute.least c.loop-attribute.standards c.kind-least.result count _ rest x steps
-          c.kind-least.ensures (one_of c.from-standards.result c.kind-least.result count c.loop-attribute.standards n x c.from-standards.ensures c.kind-least.ensures refl)
+      from = λ n right. AreRight-less c.args.base n c.loop-attribute.least c.loop-attribute.standards
+          c.kind-least.result count _ rest x steps
+          c.kind-least.ensures (one_of c.from-standards.result c.kind-least.result count c.loop-attribute.standards n x
+          c.from-standards.ensures c.kind-least.ensures refl)
           (inv.from n right);
       few =
           let byte = byte_low (c.kind-least.result == 16) in

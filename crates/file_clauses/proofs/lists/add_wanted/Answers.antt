@@ -15,8 +15,10 @@ loop-attribute-preserved-in-Continue-1 c small =
     let a = attribute_of c.in-Some.attribute in
     let other : (a.kind == ATTRIBUTE_LIST) ≡ false =
     ne_eqb a.kind ATTRIBUTE_LIST (λ e. c.if-kind-ne-ATTRIBUTE_LIST.true (c.kind.ensures ∙ e)) in
-    wanted-more c.args.n c.header-sequence.result.sequence a (attributes_left c.next.new.self) (attributes_left c.loop-attribute.attribute-iterator)
-    c.loop-attribute.wanted.items c.push.new.self.items c.wanted_entry.result c.in_ok-push.ensures.items (c.wanted_entry.ensures small) other
+    wanted-more c.args.n c.header-sequence.result.sequence a (attributes_left c.next.new.self)
+    (attributes_left c.loop-attribute.attribute-iterator)
+    c.loop-attribute.wanted.items c.push.new.self.items c.wanted_entry.result c.in_ok-push.ensures.items
+    (c.wanted_entry.ensures small) other
     c.in-Some.ensures.steps
     ∙ c.loop-attribute.invariant small
 

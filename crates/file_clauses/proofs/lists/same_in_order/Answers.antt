@@ -5,7 +5,8 @@ use Rattle.file_clauses.proofs.lists.same_in_order.Goals as goal
 pub returns-then-not-is_same : goal.returns-then-not-is_same
 returns-then-not-is_same c = (
   λ f. absurd (cc),
-  λ h. let y : c.is_same.result ≡ true = c.is_same.ensures.1 (map-at c.args.a.now c.args.b.now h c.loop-i.i _ (omega (arith, c.loop-i-test.true))) in
+  λ h. let y : c.is_same.result ≡ true =
+      c.is_same.ensures.1 (map-at c.args.a.now c.args.b.now h c.loop-i.i _ (omega (arith, c.loop-i-test.true))) in
       let n : c.is_same.result ≡ false = c.if-not-is_same.true in absurd (cc),
 )
 

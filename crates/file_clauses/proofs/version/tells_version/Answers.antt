@@ -35,7 +35,8 @@ returns c =
     let kind = sym c.kind.ensures ∙ c.if-kind-ne-VOLUME_INFORMATION.false in
     let value = sym c.value.ensures ∙ ap option_copied c.in-Some.is in
     let place = sym c.value_place.ensures ∙ c.in-Some-value_place.is in (
-      λ t. version-there (bytes_around a) (place_of a) a.shape a.size a.used c.in-Some.value.now c.in-Some-value_place.place name kind value place
+      λ t. version-there (bytes_around a) (place_of a)
+          a.shape a.size a.used c.in-Some.value.now c.in-Some-value_place.place name kind value place
           c.if-place-ne0.false (c.is_version.ensures.0 t),
       λ has. c.is_version.ensures.1 (version-asked (bytes_around a) (place_of a) a.shape a.size a.used c.in-Some.value.now
           c.in-Some-value_place.place name kind value place has).1,

@@ -5,13 +5,15 @@ use Rattle.file_clauses.specs.declared.extents.Extent.{Extent}
 use Rattle.file_clauses.specs.Extents.{outlined}
 use Rattle.file_clauses.proofs.InOrderLaws.{at-same, extents-from, extents-to}
 use Rattle.file_clauses.proofs.whole.are_whole_in_order.Goals as goal
-use Rattle.file_clauses.proofs.whole.are_whole_in_order.Goals.{else-not-is_name-via-then-not-is_name+else-not-is_attribute, else-not-is_name-via-else-not-is_name}
+use Rattle.file_clauses.proofs.whole.are_whole_in_order.Goals.{else-not-is_name-via-then-not-is_name+else-not-is_attribute}
+use Rattle.file_clauses.proofs.whole.are_whole_in_order.Goals.{else-not-is_name-via-else-not-is_name}
 
 pub returns-then-not-is_attribute : goal.returns-then-not-is_attribute
 returns-then-not-is_attribute c = (
   λ f. absurd (cc),
   λ all.
-      let w = extents-from c.args.cluster_bytes c.args.f c.args.extents.now c.loop-start.start c.group_end-end.result c.loop-start-test.true c.requires
+      let w = extents-from c.args.cluster_bytes c.args.f c.args.extents.now c.loop-start.start c.group_end-end.result
+      c.loop-start-test.true c.requires
       c.group_end-end.ensures (c.loop-start.invariant.from all) in
       let t : c.is_attribute.result ≡ true = c.is_attribute.ensures.1 (w.0 _ c.if-not-is_name.true) in
       let f = c.if-not-is_attribute.true in
@@ -31,7 +33,9 @@ loop-start-preserved c =
           (λ d other. elim c.else-not-is_name.branch [
             | else-not-is_name-via-then-not-is_name+else-not-is_attribute w ↦ w.is_attribute.ensures.0 w.if-not-is_attribute.false
             | else-not-is_name-via-else-not-is_name w ↦
-                absurd (other (at-same (λ (x : Extent). x.kind ≡ FILE_NAME) extents start start _ d c.loop-start-test.true refl w.if-not-is_name.false))
+                absurd
+                (other (at-same (λ (x : Extent). x.kind ≡ FILE_NAME)
+                extents start start _ d c.loop-start-test.true refl w.if-not-is_name.false))
           ]) rest);
       from = λ all. (extents-from size c.args.f extents start end c.loop-start-test.true c.requires group
           (c.loop-start.invariant.from all)).1;

@@ -20,8 +20,10 @@ returns-in_err-store_record_bit-clause-places g c told n least sector there = el
 
 pub returns-in_err-made-clause-places : goal.returns-in_err-made-clause-places
 returns-in_err-made-clause-places g c told n least =
-    flagged-places g.D.Disk c.args.mft.now c.store_record_bit.new.mft c.make_record.new.mft n c.store_record_bit.ensures.device (c.store_record_bit.ensures.places told)
-    (c.make_record.ensures.places n (subst (λ (m : Mounted). IsLeastFree m.records n) (sym c.store_record_bit.ensures.device.mounted) least))
+    flagged-places g.D.Disk c.args.mft.now c.store_record_bit.new.mft c.make_record.new.mft n c.store_record_bit.ensures.device
+    (c.store_record_bit.ensures.places told)
+    (c.make_record.ensures.places n
+    (subst (λ (m : Mounted). IsLeastFree m.records n) (sym c.store_record_bit.ensures.device.mounted) least))
 
 pub returns-clause-comes : goal.returns-clause-comes
 returns-clause-comes g c told place low =
@@ -34,18 +36,22 @@ returns-clause-comes g c told place low =
     let stores = subst (λ n. StoresRecordBit old flagged n) one
     (c.in_ok-store_record_bit.ensures.stored told (ap (λ n. has_record_bit old n) one ∙ place)) in
     flagged-comes c.args.directory old flagged (view g.D.Disk c.make_record.new.mft) mounted
-    (g.D.Disk.size (disk_of g.D.Disk (stage_of g.D.Disk c.args.mft.now))) made c.args.standard.now c.args.key.now told (c.requires.volume told)
+    (g.D.Disk.size (disk_of g.D.Disk (stage_of g.D.Disk c.args.mft.now))) made c.args.standard.now c.args.key.now told
+    (c.requires.volume told)
     (c.requires.owners told) c.args.mft.now.stands.table least.free low stores c.in_ok-made.ensures.made
 
 pub returns-clause-places : goal.returns-clause-places
 returns-clause-places g c told n least =
-    flagged-places g.D.Disk c.args.mft.now c.store_record_bit.new.mft c.make_record.new.mft n c.store_record_bit.ensures.device (c.store_record_bit.ensures.places told)
-    (c.make_record.ensures.places n (subst (λ (m : Mounted). IsLeastFree m.records n) (sym c.store_record_bit.ensures.device.mounted) least))
+    flagged-places g.D.Disk c.args.mft.now c.store_record_bit.new.mft c.make_record.new.mft n c.store_record_bit.ensures.device
+    (c.store_record_bit.ensures.places told)
+    (c.make_record.ensures.places n
+    (subst (λ (m : Mounted). IsLeastFree m.records n) (sym c.store_record_bit.ensures.device.mounted) least))
 
 pub returns-in_err-made-clause-few : goal.returns-in_err-made-clause-few
 returns-in_err-made-clause-few g c =
     let least = c.in-Some.ensures.some in
-    flagged-few g.D.Disk (view g.D.Disk c.store_record_bit.new.mft).layout c.args.mft.now c.store_record_bit.new.mft c.make_record.new.mft c.in-Some.n
+    flagged-few g.D.Disk (view g.D.Disk c.store_record_bit.new.mft).layout c.args.mft.now c.store_record_bit.new.mft
+    c.make_record.new.mft c.in-Some.n
     least.free.0 c.store_record_bit.ensures.few
     (c.make_record.ensures.places c.in-Some.n
     (subst (λ (m : Mounted). IsLeastFree m.records c.in-Some.n) (sym c.store_record_bit.ensures.device.mounted) least))
@@ -53,7 +59,8 @@ returns-in_err-made-clause-few g c =
 pub returns-clause-few : goal.returns-clause-few
 returns-clause-few g c =
     let least = c.in-Some.ensures.some in
-    flagged-few g.D.Disk (view g.D.Disk c.store_record_bit.new.mft).layout c.args.mft.now c.store_record_bit.new.mft c.make_record.new.mft c.in-Some.n
+    flagged-few g.D.Disk (view g.D.Disk c.store_record_bit.new.mft).layout c.args.mft.now c.store_record_bit.new.mft
+    c.make_record.new.mft c.in-Some.n
     least.free.0 c.store_record_bit.ensures.few
     (c.make_record.ensures.places c.in-Some.n
     (subst (λ (m : Mounted). IsLeastFree m.records c.in-Some.n) (sym c.store_record_bit.ensures.device.mounted) least))

@@ -102,7 +102,8 @@ returns-clause-made g c told =
     c.in_ok-file.ensures.reference (subst (λ (v : VolumeView). IsTrue v.told) (sym first) told)
     ∙ ap (λ (v : VolumeView). new_reference v c.in-Some.n) first ∙ ap (new_reference old) one in
     let comes = subst (λ (v : VolumeView). IsTrue v.told → reference_in c.in_ok-file.file ≡ new_reference v made
-    → ComesUnder c.args.directory v new (mounted_of g.D.Disk c.next_reference.new.mft) now made c.args.dir c.new_standard-standard.result c.deref.result.now)
+    → ComesUnder c.args.directory v new (mounted_of g.D.Disk c.next_reference.new.mft)
+    now made c.args.dir c.new_standard-standard.result c.deref.result.now)
     same c.in_ok-made.ensures.made told reference in
     record {
       standard = c.new_standard-standard.result;
@@ -115,8 +116,10 @@ returns-clause-made g c told =
       key = key;
       new_key = plain-new old c.args.directory c.in_ok-parent.parent c.args.dir c.args.name.now c.args.moment key c.in_ok-key.ensures
           (c.in_ok-parent.ensures.reference told);
-      comes = subst (λ xs. ComesUnder c.args.directory old new was now made c.args.dir c.new_standard-standard.result xs) c.deref.ensures.value
-          (subst (λ (m : Mounted). ComesUnder c.args.directory old new m now made c.args.dir c.new_standard-standard.result c.deref.result.now) mounted comes);
+      comes = subst (λ xs. ComesUnder c.args.directory old new was now made c.args.dir c.new_standard-standard.result xs)
+          c.deref.ensures.value
+          (subst (λ (m : Mounted). ComesUnder c.args.directory old new m now made c.args.dir c.new_standard-standard.result
+          c.deref.result.now) mounted comes);
     }
 
 pub returns-clause-places : goal.returns-clause-places

@@ -18,7 +18,8 @@ put_under-requires-clause-may g c told_then =
     let row = c.requires.record_bit told c.in_ok-made.made c.in_ok-made.ensures.least in
     let was = mounted_of g.D.Disk c.args.mft.now in
     let now = mounted_of g.D.Disk c.make_flagged.new.mft in
-    may-enter c.args.directory old (view g.D.Disk c.make_flagged.new.mft) was now c.in_ok-made.made c.args.dir c.args.standard.now c.args.key.now
+    may-enter c.args.directory old (view g.D.Disk c.make_flagged.new.mft)
+    was now c.in_ok-made.made c.args.dir c.args.standard.now c.args.key.now
     (c.requires.volume told) (c.requires.may told) c.told-standard
     (flagged-named c.args.directory old (view g.D.Disk c.make_flagged.new.mft) was now c.in_ok-made.made c.args.standard.now c.args.key.now
     c.in_ok-made.ensures.least.free c.in_ok-made.ensures.bits (c.in_ok-made.ensures.comes told row.flag row.block))
@@ -31,14 +32,17 @@ returns-in_err-put_under-clause-places g c told n least =
     let row = c.requires.record_bit told c.in_ok-made.made c.in_ok-made.ensures.least in
     let was = mounted_of g.D.Disk c.args.mft.now in
     let now = mounted_of g.D.Disk c.make_flagged.new.mft in
-    let comes = flagged-named c.args.directory old counted was now c.in_ok-made.made c.args.standard.now c.args.key.now c.in_ok-made.ensures.least.free
+    let comes = flagged-named c.args.directory old counted was now c.in_ok-made.made c.args.standard.now c.args.key.now
+    c.in_ok-made.ensures.least.free
     c.in_ok-made.ensures.bits (c.in_ok-made.ensures.comes told row.flag row.block) in
     let told_then = subst IsTrue (sym c.make_flagged.ensures.device.goes_on.told_image) told in
     made-both g.D.Disk old n c.args.dir c.args.mft.now c.make_flagged.new.mft c.put_under.new.mft
     (c.make_flagged.ensures.places told n least) c.make_flagged.ensures.few told_then
-    (parts-same c.args.directory old counted was now c.in_ok-made.made c.args.dir c.args.standard.now c.args.key.now (c.requires.volume told)
+    (parts-same c.args.directory old counted was now c.in_ok-made.made c.args.dir c.args.standard.now c.args.key.now
+    (c.requires.volume told)
     (c.requires.may told) c.told-standard comes)
-    (layout-same c.args.directory old counted was now c.in_ok-made.made c.args.dir c.args.standard.now c.args.key.now (c.requires.volume told)
+    (layout-same c.args.directory old counted was now c.in_ok-made.made c.args.dir c.args.standard.now c.args.key.now
+    (c.requires.volume told)
     (c.requires.may told) c.told-standard comes)
     (c.put_under.ensures.places told_then)
 
@@ -50,7 +54,8 @@ returns-clause-made g c told reference =
     let was = mounted_of g.D.Disk c.args.mft.now in
     let now = mounted_of g.D.Disk c.put_under.new.mft in
     let told_then = subst IsTrue (sym c.make_flagged.ensures.device.goes_on.told_image) told in
-    comes-under c.args.directory old counted (view g.D.Disk c.put_under.new.mft) was now c.in_ok-made.made c.args.dir c.args.file c.args.standard.now
+    comes-under c.args.directory old counted (view g.D.Disk c.put_under.new.mft)
+    was now c.in_ok-made.made c.args.dir c.args.file c.args.standard.now
     c.args.key.now
     (flagged-named c.args.directory old counted was now c.in_ok-made.made c.args.standard.now c.args.key.now c.in_ok-made.ensures.least.free
     (c.put_under.ensures.disk.mounted ∙ c.in_ok-made.ensures.bits) (c.in_ok-made.ensures.comes told row.flag row.block))
@@ -63,14 +68,17 @@ returns-clause-places g c told n least =
     let row = c.requires.record_bit told c.in_ok-made.made c.in_ok-made.ensures.least in
     let was = mounted_of g.D.Disk c.args.mft.now in
     let now = mounted_of g.D.Disk c.make_flagged.new.mft in
-    let comes = flagged-named c.args.directory old counted was now c.in_ok-made.made c.args.standard.now c.args.key.now c.in_ok-made.ensures.least.free
+    let comes = flagged-named c.args.directory old counted was now c.in_ok-made.made c.args.standard.now c.args.key.now
+    c.in_ok-made.ensures.least.free
     c.in_ok-made.ensures.bits (c.in_ok-made.ensures.comes told row.flag row.block) in
     let told_then = subst IsTrue (sym c.make_flagged.ensures.device.goes_on.told_image) told in
     made-both g.D.Disk old n c.args.dir c.args.mft.now c.make_flagged.new.mft c.put_under.new.mft
     (c.make_flagged.ensures.places told n least) c.make_flagged.ensures.few told_then
-    (parts-same c.args.directory old counted was now c.in_ok-made.made c.args.dir c.args.standard.now c.args.key.now (c.requires.volume told)
+    (parts-same c.args.directory old counted was now c.in_ok-made.made c.args.dir c.args.standard.now c.args.key.now
+    (c.requires.volume told)
     (c.requires.may told) c.told-standard comes)
-    (layout-same c.args.directory old counted was now c.in_ok-made.made c.args.dir c.args.standard.now c.args.key.now (c.requires.volume told)
+    (layout-same c.args.directory old counted was now c.in_ok-made.made c.args.dir c.args.standard.now c.args.key.now
+    (c.requires.volume told)
     (c.requires.may told) c.told-standard comes)
     (c.put_under.ensures.places told_then)
 

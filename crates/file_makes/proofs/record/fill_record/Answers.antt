@@ -45,8 +45,10 @@ returns-in_err-put_second-2-clause-places g c =
 
 pub returns-clause-fills : goal.returns-clause-fills
 returns-clause-fills g c = on_ok_weaker c.count_one.result (λ third.
-    record-filled c.args.directory (cluster_bytes (view g.D.Disk c.args.mft.now).layout) (view g.D.Disk c.args.mft.now) (view g.D.Disk c.put_second.new.mft) (view g.D.Disk c.put_second-2.new.mft)
-    (view g.D.Disk c.count_one.new.mft) c.args.file.now c.put_second.new.file c.put_second-2.new.file c.deref.result.now c.deref-2.result.now
+    record-filled c.args.directory (cluster_bytes (view g.D.Disk c.args.mft.now).layout) (view g.D.Disk c.args.mft.now)
+    (view g.D.Disk c.put_second.new.mft) (view g.D.Disk c.put_second-2.new.mft)
+    (view g.D.Disk c.count_one.new.mft) c.args.file.now c.put_second.new.file c.put_second-2.new.file
+    c.deref.result.now c.deref-2.result.now
     c.args.key.now c.put_second.ensures.number c.put_second-2.ensures.number (c.deref.ensures.value ∙ c.in_ok-body.ensures.bytes
     ∙ ap (λ n. body_bytes c.args.directory (512 * n)) c.cluster_sectors.ensures.sectors)
     (c.deref-2.ensures.value ∙ c.in_ok-name.ensures.bytes) c.in_ok-put_second.ensures.comes c.in_ok-put_second-2.ensures.comes third)
@@ -62,5 +64,6 @@ returns-clause-places g c =
     (c.put_second-2.ensures.number ∙ c.put_second.ensures.number)
     (staged-then g.D.Disk layout (view g.D.Disk c.put_second.new.mft).layout number (file_number c.put_second.new.file)
     (stage_of g.D.Disk c.args.mft.now) (stage_of g.D.Disk c.put_second.new.mft) (stage_of g.D.Disk c.put_second-2.new.mft)
-    (ap mounted_layout c.put_second.ensures.disk.mounted) c.put_second.ensures.number c.put_second.ensures.places c.put_second-2.ensures.places)
+    (ap mounted_layout c.put_second.ensures.disk.mounted)
+    c.put_second.ensures.number c.put_second.ensures.places c.put_second-2.ensures.places)
     c.count_one.ensures.places

@@ -5,7 +5,8 @@ use Rattle.file_makes.proofs.record.put_second.Goals as goal
 
 pub returns-clause-comes : goal.returns-clause-comes
 returns-clause-comes g c can whole =
-    second-comes c.args.file.now (length c.args.attr.now) (has-room c.args.file.now (length c.args.attr.now) c.requires.room) (view g.D.Disk c.args.mft.now)
+    second-comes c.args.file.now (length c.args.attr.now) (has-room c.args.file.now (length c.args.attr.now) c.requires.room)
+    (view g.D.Disk c.args.mft.now)
     (view g.D.Disk c.insert_attribute.new.mft) c.insert_attribute.new.self c.args.attr.now c.in_ok-insert_attribute.ensures.inserted
     c.in_ok-insert_attribute.ensures.held can whole
 
@@ -16,10 +17,12 @@ returns-clause-used g c =
 
 pub returns-clause-places : goal.returns-clause-places
 returns-clause-places g c =
-    second-places c.args.file.now (length c.args.attr.now) (has-room c.args.file.now (length c.args.attr.now) c.requires.room) g.D.Disk (view g.D.Disk c.args.mft.now).layout 4
+    second-places c.args.file.now (length c.args.attr.now) (has-room c.args.file.now (length c.args.attr.now) c.requires.room) g.D.Disk
+    (view g.D.Disk c.args.mft.now).layout 4
     c.args.mft.now c.insert_attribute.new.mft c.in_ok-insert_attribute.ensures.stages
 
 pub returns-clause-disk : goal.returns-clause-disk
 returns-clause-disk g c =
-    second-disk c.args.file.now (length c.args.attr.now) (has-room c.args.file.now (length c.args.attr.now) c.requires.room) g.D.Disk (view g.D.Disk c.args.mft.now).layout 4
+    second-disk c.args.file.now (length c.args.attr.now) (has-room c.args.file.now (length c.args.attr.now) c.requires.room) g.D.Disk
+    (view g.D.Disk c.args.mft.now).layout 4
     c.args.mft.now c.insert_attribute.new.mft c.requires.sound c.in_ok-insert_attribute.ensures.stages

@@ -22,9 +22,11 @@ pub returns-in_err-parts-clause-fetched : goal.returns-in_err-parts-clause-fetch
 returns-in_err-parts-clause-fetched g c told readable file =
     let volume = view g.D.Disk c.args.mft.now in
     let number = c.args.number in
-    let same : c.in-Some.base.held.number ≡ number = subst (λ o. IfSome o (λ (base : BaseRecord). base.held.number ≡ number)) c.in-Some.is c.in_ok-base.ensures.number in
+    let same : c.in-Some.base.held.number ≡ number =
+    subst (λ o. IfSome o (λ (base : BaseRecord). base.held.number ≡ number)) c.in-Some.is c.in_ok-base.ensures.number in
     let rest : MftReads g.D.Disk c.read_base.new.mft c.load_from.new.mft (file_reads volume number - 2) =
-    subst (λ n. WhereReadable volume (IsFile volume n → MftReads g.D.Disk c.read_base.new.mft c.load_from.new.mft (file_reads volume n - 2))) same
+    subst (λ n. WhereReadable volume (IsFile volume n
+    → MftReads g.D.Disk c.read_base.new.mft c.load_from.new.mft (file_reads volume n - 2))) same
     (subst (λ (v : VolumeView). WhereReadable v (IsFile v c.in-Some.base.held.number
     → MftReads g.D.Disk c.read_base.new.mft c.load_from.new.mft (file_reads v c.in-Some.base.held.number - 2)))
     (view-kept g.D.Disk c.args.mft.now c.read_base.new.mft _ c.read_base.ensures.reads) c.load_from.ensures.fetched) told readable file in
@@ -42,15 +44,18 @@ returns-clause-own g c =
     subst (λ o. IfSome o (λ (base : BaseRecord). base.held.number ≡ c.args.number)) c.in-Some.is c.in_ok-base.ensures.number in
     subst (λ n. IsTrue (view g.D.Disk c.args.mft.now).told
     → All (λ one. IsRecordOf (view g.D.Disk c.args.mft.now) n one.number) (held_of c.in_ok-parts.parts)) same
-    (subst (λ (volume : VolumeView). IsTrue volume.told → All (λ one. IsRecordOf volume c.in-Some.base.held.number one.number) (held_of c.in_ok-parts.parts))
+    (subst (λ (volume : VolumeView). IsTrue volume.told
+    → All (λ one. IsRecordOf volume c.in-Some.base.held.number one.number) (held_of c.in_ok-parts.parts))
     (view-kept g.D.Disk c.args.mft.now c.read_base.new.mft _ c.read_base.ensures.reads) c.in_ok-parts.ensures.own)
 
 pub returns-clause-parts : goal.returns-clause-parts
 returns-clause-parts g c told readable =
     let volume = view g.D.Disk c.args.mft.now in
     let number = c.args.number in
-    let same : c.in-Some.base.held.number ≡ number = subst (λ o. IfSome o (λ (base : BaseRecord). base.held.number ≡ number)) c.in-Some.is c.in_ok-base.ensures.number in
-    let there = subst (λ o. IfSome o (λ (base : BaseRecord). HasBaseRecord volume number base.header)) c.in-Some.is (c.in_ok-base.ensures.base told) in
+    let same : c.in-Some.base.held.number ≡ number =
+    subst (λ o. IfSome o (λ (base : BaseRecord). base.held.number ≡ number)) c.in-Some.is c.in_ok-base.ensures.number in
+    let there = subst (λ o. IfSome o (λ (base : BaseRecord). HasBaseRecord volume number base.header)) c.in-Some.is
+    (c.in_ok-base.ensures.base told) in
     let file : IsFile volume number = is-file (record_on volume number) c.in-Some.base.header there in
     subst (λ (v : VolumeView). WhereReadable v (IsFile v c.in-Some.base.held.number → AreParts v c.in_ok-parts.parts))
     (view-kept g.D.Disk c.args.mft.now c.read_base.new.mft _ c.read_base.ensures.reads) c.in_ok-parts.ensures.parts told readable
@@ -60,9 +65,11 @@ pub returns-clause-fetched : goal.returns-clause-fetched
 returns-clause-fetched g c told readable file =
     let volume = view g.D.Disk c.args.mft.now in
     let number = c.args.number in
-    let same : c.in-Some.base.held.number ≡ number = subst (λ o. IfSome o (λ (base : BaseRecord). base.held.number ≡ number)) c.in-Some.is c.in_ok-base.ensures.number in
+    let same : c.in-Some.base.held.number ≡ number =
+    subst (λ o. IfSome o (λ (base : BaseRecord). base.held.number ≡ number)) c.in-Some.is c.in_ok-base.ensures.number in
     let rest : MftReads g.D.Disk c.read_base.new.mft c.load_from.new.mft (file_reads volume number - 2) =
-    subst (λ n. WhereReadable volume (IsFile volume n → MftReads g.D.Disk c.read_base.new.mft c.load_from.new.mft (file_reads volume n - 2))) same
+    subst (λ n. WhereReadable volume (IsFile volume n
+    → MftReads g.D.Disk c.read_base.new.mft c.load_from.new.mft (file_reads volume n - 2))) same
     (subst (λ (v : VolumeView). WhereReadable v (IsFile v c.in-Some.base.held.number
     → MftReads g.D.Disk c.read_base.new.mft c.load_from.new.mft (file_reads v c.in-Some.base.held.number - 2)))
     (view-kept g.D.Disk c.args.mft.now c.read_base.new.mft _ c.read_base.ensures.reads) c.load_from.ensures.fetched) told readable file in

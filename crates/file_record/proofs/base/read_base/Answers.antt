@@ -21,7 +21,8 @@ returns-then-header-ne0-clause-other g c told readable file =
     let own = subst (λ o. IfSome o (λ (held : Held). IsRecordOf volume n n × (held.block ≡ opened_of (volume.block n)))) c.in-Some.is
     (c.in_ok-held.ensures.own told) in
     no-base-record volume n c.in-Some.held.block c.header-header.result own.0 own.1
-    (HasHeader-of n c.in-Some.held.block _ c.header-header.result c.view.ensures c.header-header.ensures.sequence c.header-header.ensures.links c.header-header.ensures.flags c.header-header.ensures.base)
+    (HasHeader-of n c.in-Some.held.block _ c.header-header.result c.view.ensures c.header-header.ensures.sequence
+    c.header-header.ensures.links c.header-header.ensures.flags c.header-header.ensures.base)
     c.if-header-ne0.true file
 
 pub returns-clause-base : goal.returns-clause-base
@@ -31,5 +32,6 @@ returns-clause-base g c told =
     let own = subst (λ o. IfSome o (λ (held : Held). IsRecordOf volume n n × (held.block ≡ opened_of (volume.block n)))) c.in-Some.is
     (c.in_ok-held.ensures.own told) in
     base-record volume n c.in-Some.held.block c.header-header.result own.0 own.1
-    (HasHeader-of n c.in-Some.held.block _ c.header-header.result c.view.ensures c.header-header.ensures.sequence c.header-header.ensures.links c.header-header.ensures.flags c.header-header.ensures.base)
+    (HasHeader-of n c.in-Some.held.block _ c.header-header.result c.view.ensures c.header-header.ensures.sequence
+    c.header-header.ensures.links c.header-header.ensures.flags c.header-header.ensures.base)
     c.if-header-ne0.false

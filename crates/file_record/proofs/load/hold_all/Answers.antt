@@ -28,11 +28,16 @@ loop-n-preserved g c =
     c.in_ok-hold_next.ensures.holds in
     let volume = view g.D.Disk c.args.mft.now in
     record {
-      reads = MftReads-then g.D.Disk c.args.mft.now c.loop-n.mft c.hold_next.new.mft _ _ _ c.loop-n.invariant.reads c.hold_next.ensures.reads
+      reads = MftReads-then g.D.Disk c.args.mft.now c.loop-n.mft c.hold_next.new.mft _ _ _ c.loop-n.invariant.reads
+          c.hold_next.ensures.reads
           (reads-more numbers base k c.loop-n-test.true);
       faults = c.in_ok-hold_next.ensures.faults ∙ c.loop-n.invariant.faults;
       held = λ told. HoldsAll-more volume base numbers k _ _ c.loop-n-test.true told (c.loop-n.invariant.held told) next;
       rising = rising-more numbers k c.loop-n-test.true up volume base _ _ next c.loop-n.invariant.before c.loop-n.invariant.rising;
       before = come-more numbers k c.loop-n-test.true up volume base _ _ next c.loop-n.invariant.before;
-      few = omega (arith, held-few volume base (get_or numbers k 0) c.loop-n.held.items c.hold_next.new.held.items next, c.loop-n.invariant.few);
+      few = omega (
+        arith,
+        held-few volume base (get_or numbers k 0) c.loop-n.held.items c.hold_next.new.held.items next,
+        c.loop-n.invariant.few,
+      );
     }

@@ -23,13 +23,16 @@ returns-in_err-numbers-clause-fetched g c told readable file =
     let volume = view g.D.Disk c.args.mft.now in
     let number = c.args.base.now.number in
     let some = records-some volume number (c.requires told).own in
-    MftReads-then g.D.Disk c.args.mft.now c.numbers_of.new.mft c.numbers_of.new.mft (reads_for_list volume number) 0 (file_reads volume number - 2)
+    MftReads-then g.D.Disk c.args.mft.now c.numbers_of.new.mft c.numbers_of.new.mft (reads_for_list volume number) 0
+    (file_reads volume number - 2)
     (c.numbers_of.ensures.fetched told readable file) (MftReads-none g.D.Disk c.numbers_of.new.mft) (omega arith)
 
 pub returns-in_err-hold_all-clause-reads : goal.returns-in_err-hold_all-clause-reads
 returns-in_err-hold_all-clause-reads g c =
-    MftReads-then g.D.Disk c.args.mft.now c.numbers_of.new.mft c.hold_all.new.mft 512 _ 20676 c.numbers_of.ensures.reads c.hold_all.ensures.reads
-    (bounded c.in_ok-numbers.numbers.items c.deref.result.now c.args.base.now.number c.in_ok-numbers.ensures.base c.deref.ensures.value c.in_ok-numbers.ensures.few)
+    MftReads-then g.D.Disk c.args.mft.now c.numbers_of.new.mft c.hold_all.new.mft 512 _ 20676
+    c.numbers_of.ensures.reads c.hold_all.ensures.reads
+    (bounded c.in_ok-numbers.numbers.items c.deref.result.now c.args.base.now.number c.in_ok-numbers.ensures.base c.deref.ensures.value
+    c.in_ok-numbers.ensures.few)
 
 pub returns-in_err-hold_all-clause-fetched : goal.returns-in_err-hold_all-clause-fetched
 returns-in_err-hold_all-clause-fetched g c told readable file =
@@ -45,7 +48,8 @@ pub returns-clause-held : goal.returns-clause-held
 returns-clause-held g c told =
     let same = view-kept g.D.Disk c.args.mft.now c.numbers_of.new.mft _ c.numbers_of.ensures.reads in
     let held : HoldsAll (view g.D.Disk c.args.mft.now) c.args.base.now.number c.deref.result.now c.hold_all.new.held.items =
-    subst (λ (volume : VolumeView). IsTrue volume.told → HoldsAll volume c.args.base.now.number c.deref.result.now c.hold_all.new.held.items) same
+    subst (λ (volume : VolumeView). IsTrue volume.told
+    → HoldsAll volume c.args.base.now.number c.deref.result.now c.hold_all.new.held.items) same
     c.in_ok-hold_all.ensures.held told in
     held.current
 
@@ -53,7 +57,8 @@ pub returns-clause-own : goal.returns-clause-own
 returns-clause-own g c told =
     let same = view-kept g.D.Disk c.args.mft.now c.numbers_of.new.mft _ c.numbers_of.ensures.reads in
     let held : HoldsAll (view g.D.Disk c.args.mft.now) c.args.base.now.number c.deref.result.now c.hold_all.new.held.items =
-    subst (λ (volume : VolumeView). IsTrue volume.told → HoldsAll volume c.args.base.now.number c.deref.result.now c.hold_all.new.held.items) same
+    subst (λ (volume : VolumeView). IsTrue volume.told
+    → HoldsAll volume c.args.base.now.number c.deref.result.now c.hold_all.new.held.items) same
     c.in_ok-hold_all.ensures.held told in
     held.own
 
@@ -71,8 +76,10 @@ returns-clause-parts g c told readable file =
 
 pub returns-clause-reads : goal.returns-clause-reads
 returns-clause-reads g c =
-    MftReads-then g.D.Disk c.args.mft.now c.numbers_of.new.mft c.hold_all.new.mft 512 _ 20676 c.numbers_of.ensures.reads c.hold_all.ensures.reads
-    (bounded c.in_ok-numbers.numbers.items c.deref.result.now c.args.base.now.number c.in_ok-numbers.ensures.base c.deref.ensures.value c.in_ok-numbers.ensures.few)
+    MftReads-then g.D.Disk c.args.mft.now c.numbers_of.new.mft c.hold_all.new.mft 512 _ 20676
+    c.numbers_of.ensures.reads c.hold_all.ensures.reads
+    (bounded c.in_ok-numbers.numbers.items c.deref.result.now c.args.base.now.number c.in_ok-numbers.ensures.base c.deref.ensures.value
+    c.in_ok-numbers.ensures.few)
 
 pub returns-clause-fetched : goal.returns-clause-fetched
 returns-clause-fetched g c told readable file =

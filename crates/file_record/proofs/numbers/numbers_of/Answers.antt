@@ -48,7 +48,8 @@ returns-clause-numbers g c told readable file =
       | in-Some+in_ok-add_listed w ↦
           subst (λ (v : Vec ℕ Global). Covers volume number v.items) (sym w.numbers-is)
           (Covers-listed volume number readable file base.0 block base.1 told (attribute_of w.in-Some.list) (sym w.in-Some.ensures) _
-          (subst (λ xs. AddsListed volume (attribute_of w.in-Some.list) xs w.add_listed.new.numbers.items) first w.in_ok-add_listed.ensures.added))
+          (subst (λ xs. AddsListed volume (attribute_of w.in-Some.list) xs w.add_listed.new.numbers.items)
+          first w.in_ok-add_listed.ensures.added))
       | in_default w ↦
           subst (Covers volume number) (sym (ap (λ (v : Vec ℕ Global). v.items) w.numbers-is ∙ first))
           (Covers-alone volume number readable file base.0 block base.1 (sym w.in_default.ensures))
@@ -66,7 +67,8 @@ returns-clause-fetched g c told readable file =
           let list = attribute_of w.in-Some.list in
           let found = sym w.in-Some.ensures in
           subst (λ mft. MftReads g.D.Disk c.args.mft.now mft (reads_for_list volume number)) (sym w.mft-is)
-          (subst (MftReads g.D.Disk c.args.mft.now w.add_listed.new.mft) (sym (reads-listed volume number readable file base.0 block base.1 told list found))
+          (subst (MftReads g.D.Disk c.args.mft.now w.add_listed.new.mft)
+          (sym (reads-listed volume number readable file base.0 block base.1 told list found))
           (w.add_listed.ensures.fetched told number (list-readable volume number readable file base.0 block base.1 told list found)))
       | in_default w ↦
           let none = MftReads-none g.D.Disk c.args.mft.now in

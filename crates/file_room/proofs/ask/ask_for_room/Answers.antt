@@ -16,7 +16,8 @@ returns-then-room-more-gt-LONGEST_LIST-clause-asked g c = at_once refl (λ told 
     let f = file_number c.args.file.now in
     let bill = bill_by f r.result c.args.clusters in
     let t = touched_by f r.result in
-    let growth = c.list_growth-more.ensures.growth bill t (c.of_stream-wanted.ensures.is 0 f r.result).parts (record { len = refl; units = refl }) in
+    let growth = c.list_growth-more.ensures.growth bill t (c.of_stream-wanted.ensures.is 0 f r.result).parts
+    (record { len = refl; units = refl }) in
     inl (ap has_room (changed-bill v c.args.file.now r.result r.ensures.len r.ensures.units are c.args.clusters)
     ∙ lists-refuse v bill _ (parts-long bill t [] refl (lt-ltb 40960 _ (omega (arith, growth, c.if-room-more-gt-LONGEST_LIST.true))))
     ∙ ap (λ n. Err (no.TooManyParts r.result.len n)) (sym growth)))
@@ -35,4 +36,5 @@ returns-clause-asked g c =
     tells (c.ask_for_free.ensures.asked bill is (omega (arith, lists))) refl (λ told says are.
     subst (λ o. Says (has_room o) c.ask_for_free.result)
     (sym (changed-bill v c.args.file.now r.result r.ensures.len r.ensures.units are c.args.clusters
-    ∙ then-free v bill (parts-short bill t [] refl (le-ltb 40960 _ (omega (arith, growth, c.if-room-more-gt-LONGEST_LIST.false))) refl) refl)) says)
+    ∙ then-free v bill (parts-short bill t [] refl (le-ltb 40960 _ (omega (arith, growth, c.if-room-more-gt-LONGEST_LIST.false))) refl)
+    refl)) says)

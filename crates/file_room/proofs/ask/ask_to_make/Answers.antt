@@ -16,7 +16,8 @@ returns-then-room-longer-gt-LONGEST_LIST-clause-asked g c = at_once refl (λ tol
     let f = file_number c.args.dir.now in
     let bill = made_by c.args.directory f r.result c.args.depth in
     let t = touched_by f r.result in
-    let growth = c.list_growth-longer.ensures.growth bill t (c.of_name-wanted.ensures.is c.args.directory f r.result).parts (record { len = refl; units = refl }) in
+    let growth = c.list_growth-longer.ensures.growth bill t (c.of_name-wanted.ensures.is c.args.directory f r.result).parts
+    (record { len = refl; units = refl }) in
     inl (ap has_room (making-bill v c.args.dir.now r.result r.ensures.len r.ensures.units are c.args.directory c.args.depth)
     ∙ lists-refuse v bill _ (parts-long bill t (new_touched c.args.directory ∷ []) refl
     (lt-ltb 40960 _ (omega (arith, growth, c.if-room-longer-gt-LONGEST_LIST.true))))
@@ -29,7 +30,8 @@ returns-then-depth-ge-TOO_DEEP-clause-asked g c = at_once refl (λ told are.
     let f = file_number c.args.dir.now in
     let bill = made_by c.args.directory f r.result c.args.depth in
     let t = touched_by f r.result in
-    let growth = c.list_growth-longer.ensures.growth bill t (c.of_name-wanted.ensures.is c.args.directory f r.result).parts (record { len = refl; units = refl }) in
+    let growth = c.list_growth-longer.ensures.growth bill t (c.of_name-wanted.ensures.is c.args.directory f r.result).parts
+    (record { len = refl; units = refl }) in
     inl (ap has_room (making-bill v c.args.dir.now r.result r.ensures.len r.ensures.units are c.args.directory c.args.depth)
     ∙ depth-refuses v bill (parts-short bill t (new_touched c.args.directory ∷ []) refl
     (le-ltb 40960 _ (omega (arith, growth, c.if-room-longer-gt-LONGEST_LIST.false))) refl)

@@ -25,7 +25,8 @@ loop-place-preserved c =
     let file = c.args.file.now in
     let k = c.loop-place._place in
     let a = attribute_of c.in-Some.attribute in
-    let (n, at, here, behind) = AreHeld-at k (attributes_held file) (parts_held file) a (attributes_left c.next.new.self) (AreHeld-file file)
+    let (n, at, here, behind) =
+    AreHeld-at k (attributes_held file) (parts_held file) a (attributes_left c.next.new.self) (AreHeld-file file)
     (sym c.loop-place.invariant.left ∙ c.in-Some.ensures.steps) in
     let rest = drop (k + 1) (parts_held file) in
     let next = ap list_len_by here ∙ list-cons (part_of n a) rest in

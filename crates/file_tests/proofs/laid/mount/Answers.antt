@@ -14,5 +14,6 @@ returns-clause-stands g c =
       size = found.fits.cluster.1;
       clusters = c.in_ok-load.ensures.count;
       table =
-          subst (λ (n : ℕ). LiesOn (g.D.Disk.size (disk_of g.D.Disk c.args.stage.now)) (layout_on table.geometry table.runs table.initialized n)) (sym c.in_ok-load-2.ensures.count) found.lies;
+          subst (λ (n : ℕ). LiesOn (g.D.Disk.size (disk_of g.D.Disk c.args.stage.now))
+          (layout_on table.geometry table.runs table.initialized n)) (sym c.in_ok-load-2.ensures.count) found.lies;
     })

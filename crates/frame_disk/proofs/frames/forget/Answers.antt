@@ -18,4 +18,6 @@ returns-then-holds-clause-forgotten c now room are =
 pub returns-else-holds-clause-forgotten : goal.returns-else-holds-clause-forgotten
 returns-else-holds-clause-forgotten c now room are =
     let held = c.args.held.now in
-    unheld-forgotten now room held.items c.args.frame (λ is. let yes = c.holds.ensures.unheld (subst (λ xs. IsIn xs (slot_of c.args.frame) c.args.frame) (sym c.deref.ensures.value) is) in cc) are
+    unheld-forgotten now room held.items c.args.frame
+    (λ is. let yes = c.holds.ensures.unheld
+    (subst (λ xs. IsIn xs (slot_of c.args.frame) c.args.frame) (sym c.deref.ensures.value) is) in cc) are

@@ -50,7 +50,8 @@ returns-clause-pieces c =
     let old = c.args.node.now in
     let can = can_insert c.args.form old c.args.i s.at s.behind s.end h (length c.args.entry.now)
     (omega (arith, c.if-entry-free.false, c.room_end.ensures.place)) in
-    inserted_pieces c.args.form old c.args.i s.at s.behind s.end h c.splice.new.node c.args.entry.now c.splice.ensures can.fits c.requires.one
+    inserted_pieces c.args.form old c.args.i s.at s.behind s.end h c.splice.new.node c.args.entry.now
+    c.splice.ensures can.fits c.requires.one
 
 pub returns-then-entry-free-clause-fits : goal.returns-then-entry-free-clause-fits
 returns-then-entry-free-clause-fits c =

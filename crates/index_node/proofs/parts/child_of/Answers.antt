@@ -26,7 +26,9 @@ returns-clause-none c =
     let p = c.requires in
     let same : (said : Node) → node_in c.args.form c.args.node.now ≡ Some said → node_of_view view ≡ said =
     λ said is. one_node (sym (ap whole_of c.in-Ok.ensures.ok) ∙ is) in
-    let within : c.args.i < length (node_of_view view).entries = (let w = p.within in let e = ap (λ (m : Node). length m.entries) (same p.said
+    let within : c.args.i < length (node_of_view view).entries =
+    (let w = p.within in let e = ap (λ (m : Node). length m.entries) (same p.said
     p.is) in omega arith) in
-    if-none c.child.result (λ none said is. subst (λ m. leading (without_entry m c.args.i) c.args.i (child_of_node m c.args.i) ≡ without_entry m c.args.i)
+    if-none c.child.result (λ none said is.
+    subst (λ m. leading (without_entry m c.args.i) c.args.i (child_of_node m c.args.i) ≡ without_entry m c.args.i)
     (same said is) (joined_none view c.args.i within (sym c.child.ensures ∙ none)))

@@ -20,7 +20,8 @@ pub returns-in-Some-clause-pieces : goal.returns-in-Some-clause-pieces
 returns-in-Some-clause-pieces c said said' is is' =
     let i = c.args.i in
     let mid = c.remove_at.ensures.ok.node said is in
-    subst (λ pieces. LeadsPiece i pieces (pieces_of c.set_child.new.node said')) (c.remove_at.ensures.pieces said (without_entry said i) is mid)
+    subst (λ pieces. LeadsPiece i pieces (pieces_of c.set_child.new.node said'))
+    (c.remove_at.ensures.pieces said (without_entry said i) is mid)
     (c.set_child.ensures.pieces (without_entry said i) said' mid is')
 
 pub returns-in-Some-clause-ok : goal.returns-in-Some-clause-ok

@@ -73,4 +73,8 @@ returns c =
     ) in
     let all = ap (λ k. take k (new ++ rest)) a ∙ take-append_seam new rest in
     subst (λ bytes. InsertsInRoot c.args.form old bytes c.args.i c.args.entry.now) (sym all)
-    (record { node = c.put_wide.ensures.node old longer; short = c.put_wide.ensures.ok old longer; grown = omega (arith, c.put_wide.ensures.len, n) })
+    (record {
+      node = c.put_wide.ensures.node old longer;
+      short = c.put_wide.ensures.ok old longer;
+      grown = omega (arith, c.put_wide.ensures.len, n);
+    })

@@ -62,9 +62,11 @@ returns-in-Some-clause-ok c =
 pub returns-in_default-clause-pieces : goal.returns-in_default-clause-pieces
 returns-in_default-clause-pieces c said said' is is' =
     let i = c.args.i in
-    subst (LeadsPiece i (take i (pieces_of c.args.node.now said) ++ drop (length (pieces_of c.args.node.now said) - 1) (pieces_of c.args.node.now said)))
+    subst (LeadsPiece i (take i (pieces_of c.args.node.now said)
+    ++ drop (length (pieces_of c.args.node.now said) - 1) (pieces_of c.args.node.now said)))
     (sym (c.cut_from.ensures.pieces said said' is is'))
-    (leads_itself i (take i (pieces_of c.args.node.now said) ++ drop (length (pieces_of c.args.node.now said) - 1) (pieces_of c.args.node.now said)))
+    (leads_itself i (take i (pieces_of c.args.node.now said)
+    ++ drop (length (pieces_of c.args.node.now said) - 1) (pieces_of c.args.node.now said)))
 
 pub returns-in_default-clause-ok : goal.returns-in_default-clause-ok
 returns-in_default-clause-ok c =

@@ -31,7 +31,8 @@ returns c =
     c.loop-k.invariant.place ∙ ap (entry_place block (first_entry block)) same in
     let len = c.u16_at-2.ensures in
     let next = next-place block c.args.place in
-    let long : entry_len block c.loop-k.at ≡ entry_len block (entry_place block (first_entry block) c.args.place) = ap (entry_len block) at in
+    let long : entry_len block c.loop-k.at ≡ entry_len block (entry_place block (first_entry block) c.args.place) =
+    ap (entry_len block) at in
     omega (arith, at, len, next, long)
 
 pub loop-k-init : goal.loop-k-init

@@ -29,7 +29,8 @@ levels_below-requires g t c κs within =
             c.in_ok-read.ensures.ready,
             (λ r told'.
                 let told = sym c.in_ok-read.ensures.records ∙ told' in
-                let has = subst (λ (child : Option ℕ). HasTree (short_nodes Names r) child c.args.most) c.in-Some.is (c.requires.tree r told) in
+                let has = subst (λ (child : Option ℕ). HasTree (short_nodes Names r) child c.args.most) c.in-Some.is
+                (c.requires.tree r told) in
                 let n = said_there (short_nodes Names r) c.in-Some.vcn c.args.most has in
                 subst (λ (child : Option ℕ). HasTree (short_nodes Names r) child (c.args.most - 1))
                 (sym (c.last_child-last.ensures n.said

@@ -84,7 +84,8 @@ returns-in-Some-child-clause-leaf g t c =
       is = read.is
           ∙ sym (way order valid laws r c.args.vcn c.args.level (c.requires.tree r told) c.read.new.into (c.in_ok-read.ensures.read r told)
           spot.place spot.hit spot.child c.args.key.now c.in-Some.ensures.some
-          ∙ ap (λ child. option_map_or (leaf_under side (short_nodes Names r) (c.args.level - 1)) child (Some c.args.vcn)) c.in-Some-child.is);
+          ∙ ap (λ child. option_map_or (leaf_under side (short_nodes Names r) (c.args.level - 1)) child (Some c.args.vcn))
+          c.in-Some-child.is);
       bytes = read.bytes;
     }) c.leaf_below.ensures.leaf
 

@@ -22,7 +22,8 @@ leaf_below-requires-clause-tree g c = λ r told.
     let laws = is_order order (g.met.C.Collation.is_order c.args.order.now) in
     let spot = c.in-Some.spot in
     subst (λ child. HasSorted order valid (short_nodes Names r) child 15) c.in-Some-child.is
-    (root_below order valid laws r c.args.root.now (c.requires.index r told) spot.place spot.hit spot.child c.args.key.now c.in-Some.ensures.some)
+    (root_below order valid laws r c.args.root.now
+    (c.requires.index r told) spot.place spot.hit spot.child c.args.key.now c.in-Some.ensures.some)
 
 pub returns-in-None-clause-leaf : goal.returns-in-None-clause-leaf
 returns-in-None-clause-leaf g c = λ r told.

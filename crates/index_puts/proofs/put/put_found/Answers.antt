@@ -24,7 +24,8 @@ put_in_leaf-requires-clause-index g c = λ r e.
     let volume = view g.D.Disk c.args.mft.now in
     let index = c.args.index in
     let (told, is) = told-records volume (index_held c.args.file.now index.name.now) r e in
-    subst (λ (rs : ℕ → _). HasSortedIndex (name_order (fold_of c.args.upcase)) is_name_key (short_nodes Names rs) (short_node Names index.root.now) 15)
+    subst (λ (rs : ℕ → _). HasSortedIndex (name_order (fold_of c.args.upcase)) is_name_key (short_nodes Names rs)
+    (short_node Names index.root.now) 15)
     is (c.requires.sorted told)
 
 pub put_in_leaf-requires-clause-room : goal.put_in_leaf-requires-clause-room

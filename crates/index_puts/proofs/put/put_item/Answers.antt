@@ -22,7 +22,8 @@ put_found-requires-clause-sorted g c = λ told.
     let volume = view g.D.Disk c.args.mft.now in
     let some : 0 < cluster_bytes volume.layout = omega (arith, c.args.mft.now.stands.table.some) in
     let lacks = c.requires.held told in
-    has-sorted volume c.args.dir.now c.args.upcase lacks.items lacks.held some c.in-Some.index c.in-Some.ensures.found c.in-Some.ensures.name
+    has-sorted volume c.args.dir.now c.args.upcase lacks.items lacks.held some c.in-Some.index
+    c.in-Some.ensures.found c.in-Some.ensures.name
 
 pub put_found-requires-clause-room : goal.put_found-requires-clause-room
 put_found-requires-clause-room g c = λ told.

@@ -14,11 +14,13 @@ returns-in_default-find_first c = λ view items held h.
 
 pub free_beside-free-requires : goal.free_beside-free-requires
 free_beside-free-requires c =
-    slice_get_within (parts_held c.args.dir.now) c.in-Some-find_first.first.index c.in-Some-find_first.ensures.part c.in-Some-find_first.ensures.at
+    slice_get_within (parts_held c.args.dir.now)
+    c.in-Some-find_first.first.index c.in-Some-find_first.ensures.part c.in-Some-find_first.ensures.at
 
 pub returns : goal.returns
 returns c = λ view items held h.
     c.has_room.ensures
     ∙ root-room view c.args.dir.now items held h c.in-Some.index c.in-Some.ensures.found c.in-Some.ensures.name c.in-Some-find_first.first
-    c.in-Some-find_first.ensures c.is_leaf.result c.has_list.result c.args.len c.free_beside-free.result c.is_leaf.ensures c.has_list.ensures
+    c.in-Some-find_first.ensures c.is_leaf.result c.has_list.result c.args.len c.free_beside-free.result
+    c.is_leaf.ensures c.has_list.ensures
     c.free_beside-free.ensures

@@ -22,14 +22,16 @@ returns-in_default-clause-none g c = λ said is keys. refused Names c.args.block
 pub returns-in-None-clause-none : goal.returns-in-None-clause-none
 returns-in-None-clause-none g c = λ said is keys.
     let e : Some said ≡ Some (node_of_view c.in-Ok.node) = sym is ∙ ap whole_of c.in-Ok.ensures.ok in
-    c.in-None.ensures.place (subst (λ (m : Node). Each (λ (x : Entry). IsTrue (g.C.Collation.valid c.args.order.now x.item.key)) m.entries) (some_same e) keys)
+    c.in-None.ensures.place
+    (subst (λ (m : Node). Each (λ (x : Entry). IsTrue (g.C.Collation.valid c.args.order.now x.item.key)) m.entries) (some_same e) keys)
 
 pub returns-in-Some-clause-some : goal.returns-in-Some-clause-some
 returns-in-Some-clause-some g c =
     let view = c.in-Ok.node in
     let here = node_of_view view in
     let i = c.number.result in
-    let place = subst (λ k. IsPlace (λ x. g.C.Collation.order c.args.order.now x c.args.key.now) here.entries k c.in-Some.hit) (sym c.number.ensures) c.in-Some.ensures.place in
+    let place = subst (λ k. IsPlace (λ x. g.C.Collation.order c.args.order.now x c.args.key.now) here.entries k c.in-Some.hit)
+    (sym c.number.ensures) c.in-Some.ensures.place in
     let leads : c.child.result ≡ child_from here.entries here.last i =
     c.child.ensures ∙ ap (λ v. child_from (node_of_view v).entries (node_of_view v).last (number_of c.in-Some.place)) c.in-Some.ensures.view
     ∙ ap (λ k. child_from here.entries here.last k) (sym c.number.ensures) in
@@ -38,6 +40,7 @@ returns-in-Some-clause-some g c =
     record {
       place = record { said = here; is = ap whole_of c.in-Ok.ensures.ok; within = place.within };
       children = ap is_some leads ∙ child_some view i place.within ∙ ap has_children c.in-Ok.ensures.bytes;
-      found = λ said is. subst (λ (m : Node). IsPlace (λ x. g.C.Collation.order c.args.order.now x c.args.key.now) m.entries i c.in-Some.hit) (same said is) place;
+      found = λ said is. subst (λ (m : Node).
+          IsPlace (λ x. g.C.Collation.order c.args.order.now x c.args.key.now) m.entries i c.in-Some.hit) (same said is) place;
       leads = λ said is. leads ∙ ap (λ (m : Node). child_from m.entries m.last i) (same said is);
     }

@@ -15,7 +15,8 @@ pub returns-in_default-clause-read : goal.returns-in_default-clause-read
 returns-in_default-clause-read g c told readable are is_file used =
     let file = c.args.file.now in
     let name = c.args.index.now.name.now in
-    absurd (used-stored (view g.D.Disk c.args.mft.now) (index_held file name) c.args.vcn (omega (arith, c.args.mft.now.stands.table.some)) used
+    absurd (used-stored (view g.D.Disk c.args.mft.now) (index_held file name) c.args.vcn
+    (omega (arith, c.args.mft.now.stands.table.some)) used
     (subst (IsStoredIfThere file INDEX_ALLOCATION name) c.in_default.is c.requires.records))
 
 pub returns-in_default-record_place-clause-read : goal.returns-in_default-record_place-clause-read
@@ -24,7 +25,8 @@ returns-in_default-record_place-clause-read g c told readable are is_file used =
     let name = c.args.index.now.name.now in
     let volume = view g.D.Disk c.args.mft.now in
     let s = subst (IsStoredIfThere file INDEX_ALLOCATION name) c.in-Some.is c.requires.records in
-    absurd (used-placed volume (index_held file name) c.args.vcn (omega (arith, c.args.mft.now.stands.table.some)) used c.in-Some.records.len
+    absurd (used-placed volume (index_held file name) c.args.vcn
+    (omega (arith, c.args.mft.now.stands.table.some)) used c.in-Some.records.len
     (stored-length volume file INDEX_ALLOCATION name c.in-Some.records s)
     (subst (λ (size : ℕ). c.args.vcn * size % 4096 ≡ 0 → c.args.vcn * size + 4096 ≤ c.in-Some.records.len → ⊥)
     c.cluster_bytes.ensures c.in_default-record_place.ensures.none))
@@ -44,7 +46,9 @@ returns-in-Ok-clause-read g c told readable are is_file used =
     let value = value_on volume (attribute_held file INDEX_ALLOCATION name) in
     let s = subst (IsStoredIfThere file INDEX_ALLOCATION name) c.in-Some.is c.requires.records in
     let (is, aligned, whole) = c.in-Some-record_place.ensures.some in
-    let its : c.in-Some-record_place.at ≡ c.args.vcn * cluster_bytes volume.layout = is ∙ ap (λ k. c.args.vcn * k) c.cluster_bytes.ensures in
+    let its : c.in-Some-record_place.at ≡ c.args.vcn * cluster_bytes volume.layout = is
+    ∙ ap (λ k. c.args.vcn * k) c.cluster_bytes.ensures in
     let opened = c.in-Ok.ensures.read told readable are is_file INDEX_ALLOCATION name s whole in
-    used-read volume (index_held file name) c.args.vcn (omega (arith, c.args.mft.now.stands.table.some)) used c.in-Ok.field-0 c.read_opened.new.into
+    used-read volume (index_held file name) c.args.vcn
+    (omega (arith, c.args.mft.now.stands.table.some)) used c.in-Ok.field-0 c.read_opened.new.into
     (subst (λ (n : ℕ). TellsOpened (slice_range value n (n + 4096)) c.args.vcn c.in-Ok.field-0 c.read_opened.new.into) its opened)

@@ -55,13 +55,16 @@ returns-clause-written g c =
     let (is, aligned, whole) = c.in-Some-record_place.ensures.some in
     let its : c.in-Some-record_place.at ≡ c.args.vcn * cluster_bytes old.layout = is ∙ ap (λ k. c.args.vcn * k) c.cluster_bytes.ensures in
     on_ok_weaker c.write_stored.result (λ w told readable are is_file owners used opened apart.
-    let may = record-writable old new _ c.args.vcn file name c.args.index.now.root.now c.args.from.now c.seal.new.block c.in-Some.records told readable are
+    let may = record-writable old new _ c.args.vcn file name c.args.index.now.root.now c.args.from.now c.seal.new.block
+    c.in-Some.records told readable are
     is_file c.requires.found.parts s owners c.args.mft.now.stands.table used opened apart c.seal.ensures.seals in
     let written = subst (λ (at : ℕ). IsWritable old (attribute_held file INDEX_ALLOCATION name) at (length c.seal.new.block)
     → WritesStream old new (spot_at (attribute_held file INDEX_ALLOCATION name)) at c.seal.new.block) its
     (w told readable are is_file INDEX_ALLOCATION name s (λ e. omega (arith, e))) may in
-    record-written old new _ c.args.vcn file name c.args.index.now.root.now c.args.from.now c.seal.new.block c.in-Some.records told readable are
-    is_file c.requires.found.parts s owners c.args.mft.now.stands.table used opened apart c.seal.ensures.seals written) c.write_stored.ensures.written
+    record-written old new _ c.args.vcn file name c.args.index.now.root.now c.args.from.now c.seal.new.block
+    c.in-Some.records told readable are
+    is_file c.requires.found.parts s owners c.args.mft.now.stands.table used opened apart c.seal.ensures.seals written)
+    c.write_stored.ensures.written
 
 pub returns-clause-places : goal.returns-clause-places
 returns-clause-places g c told readable are is_file =

@@ -26,7 +26,8 @@ entry_found-requires-clause-sorted g c = λ told.
     let volume = view g.D.Disk c.args.mft.now in
     let some : 0 < cluster_bytes volume.layout = omega (arith, c.args.mft.now.stands.table.some) in
     let holds = c.requires.held told in
-    has-sorted volume c.args.dir.now c.args.upcase holds.items holds.held some c.in-Some.index c.in-Some.ensures.found c.in-Some.ensures.name
+    has-sorted volume c.args.dir.now c.args.upcase holds.items holds.held some c.in-Some.index
+    c.in-Some.ensures.found c.in-Some.ensures.name
 
 pub returns-clause-entry : goal.returns-clause-entry
 returns-clause-entry g c =
@@ -49,12 +50,14 @@ returns-clause-fetched g c = λ told items has.
     let index = c.in-Some.index in
     let some : 0 < cluster_bytes volume.layout = omega (arith, c.args.mft.now.stands.table.some) in
     let holds = c.requires.held told in
-    let held : IsHeldWith volume c.args.dir.now c.args.upcase items = record { held = holds.held.held; has = has; case = holds.held.case } in
+    let held : IsHeldWith volume c.args.dir.now c.args.upcase items =
+    record { held = holds.held.held; has = has; case = holds.held.case } in
     let r = records_found volume c.args.dir.now index in
     let before = fetched_of g.D.Disk c.args.mft.now in
     let after = fetched_of g.D.Disk c.entry_found.new.mft in
     let fold = fold-is volume c.args.dir.now c.args.upcase items held some index c.in-Some.ensures.found c.in-Some.ensures.name in
-    let costs = subst (λ fold. EditReads 8 (name_order fold) is_name_key (short_nodes Names r) (short_node Names index.root.now) before after) fold
+    let costs =
+    subst (λ fold. EditReads 8 (name_order fold) is_name_key (short_nodes Names r) (short_node Names index.root.now) before after) fold
     (c.entry_found.ensures.fetched told) has.index.root_node
     (root-says volume c.args.dir.now c.args.upcase items held some index c.in-Some.ensures.found c.in-Some.ensures.name)
     has.index.walks.depth has.index.walks.s

@@ -21,7 +21,8 @@ returns c = λ said is d.
     let view = node_of_view c.in-Ok.node in
     let same : view ≡ said = some_same (sym (ap whole_of c.in-Ok.ensures.ok) ∙ is) in
     let long = item_len-one Names (has_children c.in-Ok.node.node.now) c.entry.result.now
-    (subst (λ form. IsTrue (is_one_entry form (has_children c.in-Ok.node.node.now) c.entry.result.now)) c.in-Ok.ensures.form c.entry.ensures.own) in
+    (subst (λ form. IsTrue (is_one_entry form (has_children c.in-Ok.node.node.now) c.entry.result.now))
+    c.in-Ok.ensures.form c.entry.ensures.own) in
     let none : child_len (has_children c.in-Ok.node.node.now) ≡ 0 =
     ap child_len (ap has_children c.in-Ok.ensures.bytes ∙ c.requires.leaf) in
     let its : item_len (item_in c.entry.result.now) ≡ item_len (slice_index_or said.entries c.args.place d).item =

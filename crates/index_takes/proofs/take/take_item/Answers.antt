@@ -23,7 +23,8 @@ take_found-requires-clause-sorted g c = λ told.
     let volume = view g.D.Disk c.args.mft.now in
     let some : 0 < cluster_bytes volume.layout = omega (arith, c.args.mft.now.stands.table.some) in
     let holds = c.requires.held told in
-    has-sorted volume c.args.dir.now c.args.upcase holds.items holds.held some c.in-Some.index c.in-Some.ensures.found c.in-Some.ensures.name
+    has-sorted volume c.args.dir.now c.args.upcase holds.items holds.held some c.in-Some.index
+    c.in-Some.ensures.found c.in-Some.ensures.name
 
 pub take_found-requires-clause-entry : goal.take_found-requires-clause-entry
 take_found-requires-clause-entry g c = λ told.

@@ -42,7 +42,8 @@ insert_below-requires-clause-tree g c = λ r told.
     let form = c.args.self.now.form in
     let root = c.args.root.now.items in
     let spot = c.in-Some.spot in
-    let seeks = subst (λ bytes. SeeksNode order form bytes c.key_of-key.result.now spot.i spot.hit spot.child) c.as_slice.ensures.value c.in-Some.ensures.some in
+    let seeks = subst (λ bytes. SeeksNode order form bytes c.key_of-key.result.now spot.i spot.hit spot.child)
+    c.as_slice.ensures.value c.in-Some.ensures.some in
     root_below order valid laws form r root c.key_of-key.result.now spot.i spot.hit spot.child seeks 15 (c.requires.index r told)
 
 pub returns-in_err-below-clause-taken : goal.returns-in_err-below-clause-taken
@@ -53,8 +54,10 @@ returns-in_err-below-clause-taken g c = λ r told.
     let form = c.args.self.now.form in
     let root = c.args.root.now.items in
     let spot = c.in-Some.spot in
-    let seeks = subst (λ bytes. SeeksNode order form bytes c.key_of-key.result.now spot.i spot.hit spot.child) c.as_slice.ensures.value c.in-Some.ensures.some in
-    root_costs order valid laws form r root c.key_of-key.result.now spot.i spot.hit spot.child seeks 1 _ _ _ (c.insert_below.ensures.taken r told) (omega arith)
+    let seeks = subst (λ bytes. SeeksNode order form bytes c.key_of-key.result.now spot.i spot.hit spot.child)
+    c.as_slice.ensures.value c.in-Some.ensures.some in
+    root_costs order valid laws form r root c.key_of-key.result.now spot.i spot.hit spot.child seeks 1 _ _ _
+    (c.insert_below.ensures.taken r told) (omega arith)
 
 pub returns-in_err-insert_in_root-in-Some-below-clause-taken : goal.returns-in_err-insert_in_root-in-Some-below-clause-taken
 returns-in_err-insert_in_root-in-Some-below-clause-taken g c = λ r told.
@@ -64,8 +67,10 @@ returns-in_err-insert_in_root-in-Some-below-clause-taken g c = λ r told.
     let form = c.args.self.now.form in
     let root = c.args.root.now.items in
     let spot = c.in-Some.spot in
-    let seeks = subst (λ bytes. SeeksNode order form bytes c.key_of-key.result.now spot.i spot.hit spot.child) c.as_slice.ensures.value c.in-Some.ensures.some in
-    root_costs order valid laws form r root c.key_of-key.result.now spot.i spot.hit spot.child seeks 1 _ _ _ (c.insert_below.ensures.taken r told) (omega arith)
+    let seeks = subst (λ bytes. SeeksNode order form bytes c.key_of-key.result.now spot.i spot.hit spot.child)
+    c.as_slice.ensures.value c.in-Some.ensures.some in
+    root_costs order valid laws form r root c.key_of-key.result.now spot.i spot.hit spot.child seeks 1 _ _ _
+    (c.insert_below.ensures.taken r told) (omega arith)
 
 pub returns-in-None-clause-taken : goal.returns-in-None-clause-taken
 returns-in-None-clause-taken g c = λ r told.
@@ -75,8 +80,10 @@ returns-in-None-clause-taken g c = λ r told.
     let form = c.args.self.now.form in
     let root = c.args.root.now.items in
     let spot = c.in-Some.spot in
-    let seeks = subst (λ bytes. SeeksNode order form bytes c.key_of-key.result.now spot.i spot.hit spot.child) c.as_slice.ensures.value c.in-Some.ensures.some in
-    root_costs order valid laws form r root c.key_of-key.result.now spot.i spot.hit spot.child seeks 1 _ _ _ (c.insert_below.ensures.taken r told) (omega arith)
+    let seeks = subst (λ bytes. SeeksNode order form bytes c.key_of-key.result.now spot.i spot.hit spot.child)
+    c.as_slice.ensures.value c.in-Some.ensures.some in
+    root_costs order valid laws form r root c.key_of-key.result.now spot.i spot.hit spot.child seeks 1 _ _ _
+    (c.insert_below.ensures.taken r told) (omega arith)
 
 pub returns-in_ok-insert_in_root-in-Some-below-clause-taken : goal.returns-in_ok-insert_in_root-in-Some-below-clause-taken
 returns-in_ok-insert_in_root-in-Some-below-clause-taken g c = λ r told.
@@ -86,8 +93,10 @@ returns-in_ok-insert_in_root-in-Some-below-clause-taken g c = λ r told.
     let form = c.args.self.now.form in
     let root = c.args.root.now.items in
     let spot = c.in-Some.spot in
-    let seeks = subst (λ bytes. SeeksNode order form bytes c.key_of-key.result.now spot.i spot.hit spot.child) c.as_slice.ensures.value c.in-Some.ensures.some in
-    root_costs order valid laws form r root c.key_of-key.result.now spot.i spot.hit spot.child seeks 1 _ _ _ (c.insert_below.ensures.taken r told) c.fit_root.ensures.taken
+    let seeks = subst (λ bytes. SeeksNode order form bytes c.key_of-key.result.now spot.i spot.hit spot.child)
+    c.as_slice.ensures.value c.in-Some.ensures.some in
+    root_costs order valid laws form r root c.key_of-key.result.now spot.i spot.hit spot.child seeks 1 _ _ _
+    (c.insert_below.ensures.taken r told) c.fit_root.ensures.taken
 
 pub returns-in-None-clause-inserted : goal.returns-in-None-clause-inserted
 returns-in-None-clause-inserted g c =
@@ -97,7 +106,8 @@ returns-in-None-clause-inserted g c =
     let form = c.args.self.now.form in
     let root = c.args.root.now.items in
     let spot = c.in-Some.spot in
-    let seeks = subst (λ bytes. SeeksNode order form bytes c.key_of-key.result.now spot.i spot.hit spot.child) c.as_slice.ensures.value c.in-Some.ensures.some in
+    let seeks = subst (λ bytes. SeeksNode order form bytes c.key_of-key.result.now spot.i spot.hit spot.child)
+    c.as_slice.ensures.value c.in-Some.ensures.some in
     let done = c.in_ok-below.ensures.done in
     record {
       back = λ r1 told1. let e = edits_after done r1 told1 in (e.0, e.1);
@@ -105,9 +115,11 @@ returns-in-None-clause-inserted g c =
           let a = done.on r told in (
             a.0,
             a.1,
-            root_done order valid laws form r root c.key_of-key.result.now spot.i spot.hit spot.child seeks (item_in c.args.entry.now) c.key_of-key.ensures (subst (λ k. IsTrue (valid k)) (sym c.key_of-key.ensures) c.requires.key)
+            root_done order valid laws form r root c.key_of-key.result.now spot.i spot.hit spot.child seeks
+                (item_in c.args.entry.now) c.key_of-key.ensures (subst (λ k. IsTrue (valid k)) (sym c.key_of-key.ensures) c.requires.key)
                 a.0 a.0 root None
-                (subst (λ up. InsertsBelow order valid (short_nodes form r) (short_nodes form a.0) spot.child (item_in c.args.entry.now) (option_map entry_in up)) c.in-None.is a.2)
+                (subst (λ up. InsertsBelow order valid (short_nodes form r) (short_nodes form a.0) spot.child (item_in c.args.entry.now)
+                (option_map entry_in up)) c.in-None.is a.2)
                 (fits_same form root a.0 spot.i),
           );
     }
@@ -120,7 +132,8 @@ returns-in_ok-insert_in_root-in-Some-below-clause-inserted g c =
     let form = c.args.self.now.form in
     let root = c.args.root.now.items in
     let spot = c.in-Some.spot in
-    let seeks = subst (λ bytes. SeeksNode order form bytes c.key_of-key.result.now spot.i spot.hit spot.child) c.as_slice.ensures.value c.in-Some.ensures.some in
+    let seeks = subst (λ bytes. SeeksNode order form bytes c.key_of-key.result.now spot.i spot.hit spot.child)
+    c.as_slice.ensures.value c.in-Some.ensures.some in
     let done = c.in_ok-below.ensures.done in
     OnOk-map c.fit_root.result
     (λ fits. record {
@@ -134,10 +147,13 @@ returns-in_ok-insert_in_root-in-Some-below-clause-inserted g c =
           let up = c.as_slice-in-Some-below.result.now in (
             b.0,
             b.1,
-            root_done order valid laws form r root c.key_of-key.result.now spot.i spot.hit spot.child seeks (item_in c.args.entry.now) c.key_of-key.ensures (subst (λ k. IsTrue (valid k)) (sym c.key_of-key.ensures) c.requires.key)
+            root_done order valid laws form r root c.key_of-key.result.now spot.i spot.hit spot.child seeks
+                (item_in c.args.entry.now) c.key_of-key.ensures (subst (λ k. IsTrue (valid k)) (sym c.key_of-key.ensures) c.requires.key)
                 a.0 b.0 c.fit_root.new.root.items (Some (entry_in up))
-                (subst (λ bytes. InsertsBelow order valid (short_nodes form r) (short_nodes form a.0) spot.child (item_in c.args.entry.now) (Some (entry_in bytes))) (sym c.as_slice-in-Some-below.ensures)
-                (subst (λ up. InsertsBelow order valid (short_nodes form r) (short_nodes form a.0) spot.child (item_in c.args.entry.now) (option_map entry_in up)) c.in-Some-below.is a.2))
+                (subst (λ bytes. InsertsBelow order valid (short_nodes form r) (short_nodes form a.0) spot.child (item_in c.args.entry.now)
+                (Some (entry_in bytes))) (sym c.as_slice-in-Some-below.ensures)
+                (subst (λ up. InsertsBelow order valid (short_nodes form r) (short_nodes form a.0) spot.child (item_in c.args.entry.now)
+                (option_map entry_in up)) c.in-Some-below.is a.2))
                 (λ said is. b.2 (with_entry_at said spot.i (entry_in up)) (c.in_ok-insert_in_root-in-Some-below.ensures.short said is)),
           );
     })
@@ -151,8 +167,10 @@ returns-in_err-below-clause-written g c = λ r told.
     let form = c.args.self.now.form in
     let root = c.args.root.now.items in
     let spot = c.in-Some.spot in
-    let seeks = subst (λ bytes. SeeksNode order form bytes c.key_of-key.result.now spot.i spot.hit spot.child) c.as_slice.ensures.value c.in-Some.ensures.some in
-    root_costs order valid laws form r root c.key_of-key.result.now spot.i spot.hit spot.child seeks 3 _ _ _ (c.insert_below.ensures.written r told) (omega arith)
+    let seeks = subst (λ bytes. SeeksNode order form bytes c.key_of-key.result.now spot.i spot.hit spot.child)
+    c.as_slice.ensures.value c.in-Some.ensures.some in
+    root_costs order valid laws form r root c.key_of-key.result.now spot.i spot.hit spot.child seeks 3 _ _ _
+    (c.insert_below.ensures.written r told) (omega arith)
 
 pub returns-in_err-insert_in_root-in-Some-below-clause-written : goal.returns-in_err-insert_in_root-in-Some-below-clause-written
 returns-in_err-insert_in_root-in-Some-below-clause-written g c = λ r told.
@@ -162,8 +180,10 @@ returns-in_err-insert_in_root-in-Some-below-clause-written g c = λ r told.
     let form = c.args.self.now.form in
     let root = c.args.root.now.items in
     let spot = c.in-Some.spot in
-    let seeks = subst (λ bytes. SeeksNode order form bytes c.key_of-key.result.now spot.i spot.hit spot.child) c.as_slice.ensures.value c.in-Some.ensures.some in
-    root_costs order valid laws form r root c.key_of-key.result.now spot.i spot.hit spot.child seeks 3 _ _ _ (c.insert_below.ensures.written r told) (omega arith)
+    let seeks = subst (λ bytes. SeeksNode order form bytes c.key_of-key.result.now spot.i spot.hit spot.child)
+    c.as_slice.ensures.value c.in-Some.ensures.some in
+    root_costs order valid laws form r root c.key_of-key.result.now spot.i spot.hit spot.child seeks 3 _ _ _
+    (c.insert_below.ensures.written r told) (omega arith)
 
 pub returns-in-None-clause-written : goal.returns-in-None-clause-written
 returns-in-None-clause-written g c = λ r told.
@@ -173,8 +193,10 @@ returns-in-None-clause-written g c = λ r told.
     let form = c.args.self.now.form in
     let root = c.args.root.now.items in
     let spot = c.in-Some.spot in
-    let seeks = subst (λ bytes. SeeksNode order form bytes c.key_of-key.result.now spot.i spot.hit spot.child) c.as_slice.ensures.value c.in-Some.ensures.some in
-    root_costs order valid laws form r root c.key_of-key.result.now spot.i spot.hit spot.child seeks 3 _ _ _ (c.insert_below.ensures.written r told) (omega arith)
+    let seeks = subst (λ bytes. SeeksNode order form bytes c.key_of-key.result.now spot.i spot.hit spot.child)
+    c.as_slice.ensures.value c.in-Some.ensures.some in
+    root_costs order valid laws form r root c.key_of-key.result.now spot.i spot.hit spot.child seeks 3 _ _ _
+    (c.insert_below.ensures.written r told) (omega arith)
 
 pub returns-in_ok-insert_in_root-in-Some-below-clause-written : goal.returns-in_ok-insert_in_root-in-Some-below-clause-written
 returns-in_ok-insert_in_root-in-Some-below-clause-written g c = λ r told.
@@ -184,8 +206,10 @@ returns-in_ok-insert_in_root-in-Some-below-clause-written g c = λ r told.
     let form = c.args.self.now.form in
     let root = c.args.root.now.items in
     let spot = c.in-Some.spot in
-    let seeks = subst (λ bytes. SeeksNode order form bytes c.key_of-key.result.now spot.i spot.hit spot.child) c.as_slice.ensures.value c.in-Some.ensures.some in
-    root_costs order valid laws form r root c.key_of-key.result.now spot.i spot.hit spot.child seeks 3 _ _ _ (c.insert_below.ensures.written r told) c.fit_root.ensures.written
+    let seeks = subst (λ bytes. SeeksNode order form bytes c.key_of-key.result.now spot.i spot.hit spot.child)
+    c.as_slice.ensures.value c.in-Some.ensures.some in
+    root_costs order valid laws form r root c.key_of-key.result.now spot.i spot.hit spot.child seeks 3 _ _ _
+    (c.insert_below.ensures.written r told) c.fit_root.ensures.written
 
 pub key_of-key-requires : goal.key_of-key-requires
 key_of-key-requires g c = key_fits c.args.self.now.form false c.args.entry.now c.requires.entry.one
@@ -198,8 +222,10 @@ returns-in_err-below-clause-reads g c = λ r told.
     let form = c.args.self.now.form in
     let root = c.args.root.now.items in
     let spot = c.in-Some.spot in
-    let seeks = subst (λ bytes. SeeksNode order form bytes c.key_of-key.result.now spot.i spot.hit spot.child) c.as_slice.ensures.value c.in-Some.ensures.some in
-    root_reads order valid laws form r root c.key_of-key.result.now spot.i spot.hit spot.child seeks 1 _ _ (c.insert_below.ensures.reads r told)
+    let seeks = subst (λ bytes. SeeksNode order form bytes c.key_of-key.result.now spot.i spot.hit spot.child)
+    c.as_slice.ensures.value c.in-Some.ensures.some in
+    root_reads order valid laws form r root c.key_of-key.result.now spot.i spot.hit spot.child seeks 1 _ _
+    (c.insert_below.ensures.reads r told)
 
 pub returns-in_err-insert_in_root-in-Some-below-clause-reads : goal.returns-in_err-insert_in_root-in-Some-below-clause-reads
 returns-in_err-insert_in_root-in-Some-below-clause-reads g c = λ r told.
@@ -209,8 +235,10 @@ returns-in_err-insert_in_root-in-Some-below-clause-reads g c = λ r told.
     let form = c.args.self.now.form in
     let root = c.args.root.now.items in
     let spot = c.in-Some.spot in
-    let seeks = subst (λ bytes. SeeksNode order form bytes c.key_of-key.result.now spot.i spot.hit spot.child) c.as_slice.ensures.value c.in-Some.ensures.some in
-    root_reads order valid laws form r root c.key_of-key.result.now spot.i spot.hit spot.child seeks 1 _ _ (c.insert_below.ensures.reads r told)
+    let seeks = subst (λ bytes. SeeksNode order form bytes c.key_of-key.result.now spot.i spot.hit spot.child)
+    c.as_slice.ensures.value c.in-Some.ensures.some in
+    root_reads order valid laws form r root c.key_of-key.result.now spot.i spot.hit spot.child seeks 1 _ _
+    (c.insert_below.ensures.reads r told)
 
 pub returns-in-None-clause-reads : goal.returns-in-None-clause-reads
 returns-in-None-clause-reads g c = λ r told.
@@ -220,8 +248,10 @@ returns-in-None-clause-reads g c = λ r told.
     let form = c.args.self.now.form in
     let root = c.args.root.now.items in
     let spot = c.in-Some.spot in
-    let seeks = subst (λ bytes. SeeksNode order form bytes c.key_of-key.result.now spot.i spot.hit spot.child) c.as_slice.ensures.value c.in-Some.ensures.some in
-    root_reads order valid laws form r root c.key_of-key.result.now spot.i spot.hit spot.child seeks 1 _ _ (c.insert_below.ensures.reads r told)
+    let seeks = subst (λ bytes. SeeksNode order form bytes c.key_of-key.result.now spot.i spot.hit spot.child)
+    c.as_slice.ensures.value c.in-Some.ensures.some in
+    root_reads order valid laws form r root c.key_of-key.result.now spot.i spot.hit spot.child seeks 1 _ _
+    (c.insert_below.ensures.reads r told)
 
 pub returns-in_ok-insert_in_root-in-Some-below-clause-reads : goal.returns-in_ok-insert_in_root-in-Some-below-clause-reads
 returns-in_ok-insert_in_root-in-Some-below-clause-reads g c = λ r told.
@@ -231,8 +261,11 @@ returns-in_ok-insert_in_root-in-Some-below-clause-reads g c = λ r told.
     let form = c.args.self.now.form in
     let root = c.args.root.now.items in
     let spot = c.in-Some.spot in
-    let seeks = subst (λ bytes. SeeksNode order form bytes c.key_of-key.result.now spot.i spot.hit spot.child) c.as_slice.ensures.value c.in-Some.ensures.some in
-    root_reads order valid laws form r root c.key_of-key.result.now spot.i spot.hit spot.child seeks 1 _ _ (subst (EditCostsBelow 1 order valid (short_nodes form r) spot.child (g.B.Blocks.reads c.args.blocks.now)) (sym c.fit_root.ensures.reads) (c.insert_below.ensures.reads r told))
+    let seeks = subst (λ bytes. SeeksNode order form bytes c.key_of-key.result.now spot.i spot.hit spot.child)
+    c.as_slice.ensures.value c.in-Some.ensures.some in
+    root_reads order valid laws form r root c.key_of-key.result.now spot.i spot.hit spot.child seeks 1 _ _
+    (subst (EditCostsBelow 1 order valid (short_nodes form r) spot.child (g.B.Blocks.reads c.args.blocks.now))
+    (sym c.fit_root.ensures.reads) (c.insert_below.ensures.reads r told))
 
 pub returns-in_default-clause-keyed : goal.returns-in_default-clause-keyed
 returns-in_default-clause-keyed g c = λ r told r' told'.
@@ -248,7 +281,8 @@ returns-in_ok-insert_in_root-in-Some-below-clause-keyed g c =
     let form = c.args.self.now.form in
     let root = c.args.root.now.items in
     let spot = c.in-Some.spot in
-    let seeks = subst (λ bytes. SeeksNode order form bytes c.key_of-key.result.now spot.i spot.hit spot.child) c.as_slice.ensures.value c.in-Some.ensures.some in
+    let seeks = subst (λ bytes. SeeksNode order form bytes c.key_of-key.result.now spot.i spot.hit spot.child)
+    c.as_slice.ensures.value c.in-Some.ensures.some in
     let done = c.in_ok-below.ensures.done in
     OnOk-map c.fit_root.result
     (λ fits. λ r told r' told'.
@@ -260,5 +294,6 @@ returns-in_ok-insert_in_root-in-Some-below-clause-keyed g c =
     let within = (seeks.found has.node (short_in form root has.node has.is)).within in
     subst (λ q. KeepsKeyed (short_nodes form r) (short_nodes form q)) (some_same (sym b.1 ∙ told'))
     (keyed_trans (short_nodes form r) (short_nodes form a.0) (short_nodes form b.0) (c.in_ok-below.ensures.keyed r told a.0 a.1)
-    (fits_keyed (short_nodes form a.0) (short_nodes form b.0) (with_entry_at has.node spot.i e) f.0 f.2 (some_put has.node.entries spot.i e within))))
+    (fits_keyed (short_nodes form a.0) (short_nodes form b.0) (with_entry_at has.node spot.i e) f.0 f.2
+    (some_put has.node.entries spot.i e within))))
     c.fit_root.ensures.fits

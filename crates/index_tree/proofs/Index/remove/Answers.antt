@@ -43,7 +43,8 @@ remove_in_root-requires-clause-entry g c =
     let form = c.args.self.now.form in
     let root = c.args.root.now.items in
     let spot = c.in-Some.spot in
-    let seeks = subst (λ bytes. SeeksNode order form bytes c.args.key.now spot.i spot.hit spot.child) c.as_slice.ensures.value c.in-Some.ensures.some in
+    let seeks = subst (λ bytes. SeeksNode order form bytes c.args.key.now spot.i spot.hit spot.child)
+    c.as_slice.ensures.value c.in-Some.ensures.some in
     hit_entry order form root c.args.key.now spot.i spot.hit spot.child seeks c.if-spot.true
 
 pub remove_in_root-requires-clause-behind : goal.remove_in_root-requires-clause-behind
@@ -54,7 +55,8 @@ remove_in_root-requires-clause-behind g c = λ r told.
     let form = c.args.self.now.form in
     let root = c.args.root.now.items in
     let spot = c.in-Some.spot in
-    let seeks = subst (λ bytes. SeeksNode order form bytes c.args.key.now spot.i spot.hit spot.child) c.as_slice.ensures.value c.in-Some.ensures.some in
+    let seeks = subst (λ bytes. SeeksNode order form bytes c.args.key.now spot.i spot.hit spot.child)
+    c.as_slice.ensures.value c.in-Some.ensures.some in
     behind_of order valid laws form r root (c.requires.index r told) spot.i
 
 pub returns-then-spot-clause-removed : goal.returns-then-spot-clause-removed
@@ -65,13 +67,18 @@ returns-then-spot-clause-removed g c =
     let form = c.args.self.now.form in
     let root = c.args.root.now.items in
     let spot = c.in-Some.spot in
-    let seeks = subst (λ bytes. SeeksNode order form bytes c.args.key.now spot.i spot.hit spot.child) c.as_slice.ensures.value c.in-Some.ensures.some in
+    let seeks = subst (λ bytes. SeeksNode order form bytes c.args.key.now spot.i spot.hit spot.child)
+    c.as_slice.ensures.value c.in-Some.ensures.some in
     OnOk-map c.remove_in_root.result
     (λ done. record {
       back = λ r1 told1. let e = edits_after done r1 told1 in (e.0, e.1);
       on = λ r told.
-          let a = done.on r told in
-          (a.0, a.1, root_hit order valid laws form r root c.args.key.now spot.i spot.hit spot.child seeks c.if-spot.true a.0 c.remove_in_root.new.root.items a.2);
+          let a = done.on r told in (
+            a.0,
+            a.1,
+            root_hit order valid laws form r root c.args.key.now spot.i spot.hit spot.child seeks c.if-spot.true a.0
+                c.remove_in_root.new.root.items a.2,
+          );
     })
     c.remove_in_root.ensures.done
 
@@ -101,7 +108,8 @@ remove_below-requires-clause-tree g c = λ r told.
     let form = c.args.self.now.form in
     let root = c.args.root.now.items in
     let spot = c.in-Some.spot in
-    let seeks = subst (λ bytes. SeeksNode order form bytes c.args.key.now spot.i spot.hit spot.child) c.as_slice.ensures.value c.in-Some.ensures.some in
+    let seeks = subst (λ bytes. SeeksNode order form bytes c.args.key.now spot.i spot.hit spot.child)
+    c.as_slice.ensures.value c.in-Some.ensures.some in
     root_below order valid laws form r root c.args.key.now spot.i spot.hit spot.child seeks 15 (c.requires.index r told)
 
 pub returns-in-None-clause-removed : goal.returns-in-None-clause-removed
@@ -112,7 +120,8 @@ returns-in-None-clause-removed g c =
     let form = c.args.self.now.form in
     let root = c.args.root.now.items in
     let spot = c.in-Some.spot in
-    let seeks = subst (λ bytes. SeeksNode order form bytes c.args.key.now spot.i spot.hit spot.child) c.as_slice.ensures.value c.in-Some.ensures.some in
+    let seeks = subst (λ bytes. SeeksNode order form bytes c.args.key.now spot.i spot.hit spot.child)
+    c.as_slice.ensures.value c.in-Some.ensures.some in
     let done = c.in_ok-below.ensures.done in
     record {
       back = λ r1 told1. let e = edits_after done r1 told1 in (e.0, e.1);
@@ -121,7 +130,8 @@ returns-in-None-clause-removed g c =
             a.0,
             a.1,
             root_removed order valid laws form r root c.args.key.now spot.i spot.hit spot.child seeks c.if-spot.false a.0 a.0 root None
-                (subst (λ up. RemovesBelow order valid (short_nodes form r) (short_nodes form a.0) spot.child c.args.key.now (option_map entry_in up)) c.in-None.is a.2)
+                (subst (λ up. RemovesBelow order valid (short_nodes form r) (short_nodes form a.0) spot.child c.args.key.now
+                (option_map entry_in up)) c.in-None.is a.2)
                 (fits_same form root a.0 spot.i),
           );
     }
@@ -134,7 +144,8 @@ returns-in_ok-insert_in_root-in-Some-below-clause-removed g c =
     let form = c.args.self.now.form in
     let root = c.args.root.now.items in
     let spot = c.in-Some.spot in
-    let seeks = subst (λ bytes. SeeksNode order form bytes c.args.key.now spot.i spot.hit spot.child) c.as_slice.ensures.value c.in-Some.ensures.some in
+    let seeks = subst (λ bytes. SeeksNode order form bytes c.args.key.now spot.i spot.hit spot.child)
+    c.as_slice.ensures.value c.in-Some.ensures.some in
     let done = c.in_ok-below.ensures.done in
     OnOk-map c.fit_root.result
     (λ fits. record {
@@ -148,9 +159,12 @@ returns-in_ok-insert_in_root-in-Some-below-clause-removed g c =
           let up = c.as_slice-in-Some-below.result.now in (
             b.0,
             b.1,
-            root_removed order valid laws form r root c.args.key.now spot.i spot.hit spot.child seeks c.if-spot.false a.0 b.0 c.fit_root.new.root.items (Some (entry_in up))
-                (subst (λ bytes. RemovesBelow order valid (short_nodes form r) (short_nodes form a.0) spot.child c.args.key.now (Some (entry_in bytes))) (sym c.as_slice-in-Some-below.ensures)
-                (subst (λ up. RemovesBelow order valid (short_nodes form r) (short_nodes form a.0) spot.child c.args.key.now (option_map entry_in up)) c.in-Some-below.is a.2))
+            root_removed order valid laws form r root c.args.key.now spot.i spot.hit spot.child seeks c.if-spot.false a.0 b.0
+                c.fit_root.new.root.items (Some (entry_in up))
+                (subst (λ bytes. RemovesBelow order valid (short_nodes form r) (short_nodes form a.0) spot.child c.args.key.now
+                (Some (entry_in bytes))) (sym c.as_slice-in-Some-below.ensures)
+                (subst (λ up. RemovesBelow order valid (short_nodes form r) (short_nodes form a.0) spot.child c.args.key.now
+                (option_map entry_in up)) c.in-Some-below.is a.2))
                 (λ said is. b.2 (with_entry_at said spot.i (entry_in up)) (c.in_ok-insert_in_root-in-Some-below.ensures.short said is)),
           );
     })
@@ -164,8 +178,10 @@ returns-in_err-below-clause-taken g c = λ r told.
     let form = c.args.self.now.form in
     let root = c.args.root.now.items in
     let spot = c.in-Some.spot in
-    let seeks = subst (λ bytes. SeeksNode order form bytes c.args.key.now spot.i spot.hit spot.child) c.as_slice.ensures.value c.in-Some.ensures.some in
-    root_costs order valid laws form r root c.args.key.now spot.i spot.hit spot.child seeks 1 _ _ _ (c.remove_below.ensures.taken r told) (omega arith)
+    let seeks = subst (λ bytes. SeeksNode order form bytes c.args.key.now spot.i spot.hit spot.child)
+    c.as_slice.ensures.value c.in-Some.ensures.some in
+    root_costs order valid laws form r root c.args.key.now spot.i spot.hit spot.child seeks 1 _ _ _
+    (c.remove_below.ensures.taken r told) (omega arith)
 
 pub returns-in_err-insert_in_root-in-Some-below-clause-taken : goal.returns-in_err-insert_in_root-in-Some-below-clause-taken
 returns-in_err-insert_in_root-in-Some-below-clause-taken g c = λ r told.
@@ -175,8 +191,10 @@ returns-in_err-insert_in_root-in-Some-below-clause-taken g c = λ r told.
     let form = c.args.self.now.form in
     let root = c.args.root.now.items in
     let spot = c.in-Some.spot in
-    let seeks = subst (λ bytes. SeeksNode order form bytes c.args.key.now spot.i spot.hit spot.child) c.as_slice.ensures.value c.in-Some.ensures.some in
-    root_costs order valid laws form r root c.args.key.now spot.i spot.hit spot.child seeks 1 _ _ _ (c.remove_below.ensures.taken r told) (omega arith)
+    let seeks = subst (λ bytes. SeeksNode order form bytes c.args.key.now spot.i spot.hit spot.child)
+    c.as_slice.ensures.value c.in-Some.ensures.some in
+    root_costs order valid laws form r root c.args.key.now spot.i spot.hit spot.child seeks 1 _ _ _
+    (c.remove_below.ensures.taken r told) (omega arith)
 
 pub returns-in-None-clause-taken : goal.returns-in-None-clause-taken
 returns-in-None-clause-taken g c = λ r told.
@@ -186,8 +204,10 @@ returns-in-None-clause-taken g c = λ r told.
     let form = c.args.self.now.form in
     let root = c.args.root.now.items in
     let spot = c.in-Some.spot in
-    let seeks = subst (λ bytes. SeeksNode order form bytes c.args.key.now spot.i spot.hit spot.child) c.as_slice.ensures.value c.in-Some.ensures.some in
-    root_costs order valid laws form r root c.args.key.now spot.i spot.hit spot.child seeks 1 _ _ _ (c.remove_below.ensures.taken r told) (omega arith)
+    let seeks = subst (λ bytes. SeeksNode order form bytes c.args.key.now spot.i spot.hit spot.child)
+    c.as_slice.ensures.value c.in-Some.ensures.some in
+    root_costs order valid laws form r root c.args.key.now spot.i spot.hit spot.child seeks 1 _ _ _
+    (c.remove_below.ensures.taken r told) (omega arith)
 
 pub returns-in_ok-insert_in_root-in-Some-below-clause-taken : goal.returns-in_ok-insert_in_root-in-Some-below-clause-taken
 returns-in_ok-insert_in_root-in-Some-below-clause-taken g c = λ r told.
@@ -197,8 +217,10 @@ returns-in_ok-insert_in_root-in-Some-below-clause-taken g c = λ r told.
     let form = c.args.self.now.form in
     let root = c.args.root.now.items in
     let spot = c.in-Some.spot in
-    let seeks = subst (λ bytes. SeeksNode order form bytes c.args.key.now spot.i spot.hit spot.child) c.as_slice.ensures.value c.in-Some.ensures.some in
-    root_costs order valid laws form r root c.args.key.now spot.i spot.hit spot.child seeks 1 _ _ _ (c.remove_below.ensures.taken r told) (let x = c.fit_root.ensures.taken in omega (arith, x))
+    let seeks = subst (λ bytes. SeeksNode order form bytes c.args.key.now spot.i spot.hit spot.child)
+    c.as_slice.ensures.value c.in-Some.ensures.some in
+    root_costs order valid laws form r root c.args.key.now spot.i spot.hit spot.child seeks 1 _ _ _ (c.remove_below.ensures.taken r told)
+    (let x = c.fit_root.ensures.taken in omega (arith, x))
 
 pub returns-in_err-below-clause-written : goal.returns-in_err-below-clause-written
 returns-in_err-below-clause-written g c = λ r told.
@@ -208,8 +230,10 @@ returns-in_err-below-clause-written g c = λ r told.
     let form = c.args.self.now.form in
     let root = c.args.root.now.items in
     let spot = c.in-Some.spot in
-    let seeks = subst (λ bytes. SeeksNode order form bytes c.args.key.now spot.i spot.hit spot.child) c.as_slice.ensures.value c.in-Some.ensures.some in
-    root_costs order valid laws form r root c.args.key.now spot.i spot.hit spot.child seeks 4 _ _ _ (c.remove_below.ensures.written r told) (omega arith)
+    let seeks = subst (λ bytes. SeeksNode order form bytes c.args.key.now spot.i spot.hit spot.child)
+    c.as_slice.ensures.value c.in-Some.ensures.some in
+    root_costs order valid laws form r root c.args.key.now spot.i spot.hit spot.child seeks 4 _ _ _
+    (c.remove_below.ensures.written r told) (omega arith)
 
 pub returns-in_err-insert_in_root-in-Some-below-clause-written : goal.returns-in_err-insert_in_root-in-Some-below-clause-written
 returns-in_err-insert_in_root-in-Some-below-clause-written g c = λ r told.
@@ -219,8 +243,10 @@ returns-in_err-insert_in_root-in-Some-below-clause-written g c = λ r told.
     let form = c.args.self.now.form in
     let root = c.args.root.now.items in
     let spot = c.in-Some.spot in
-    let seeks = subst (λ bytes. SeeksNode order form bytes c.args.key.now spot.i spot.hit spot.child) c.as_slice.ensures.value c.in-Some.ensures.some in
-    root_costs order valid laws form r root c.args.key.now spot.i spot.hit spot.child seeks 4 _ _ _ (c.remove_below.ensures.written r told) (omega arith)
+    let seeks = subst (λ bytes. SeeksNode order form bytes c.args.key.now spot.i spot.hit spot.child)
+    c.as_slice.ensures.value c.in-Some.ensures.some in
+    root_costs order valid laws form r root c.args.key.now spot.i spot.hit spot.child seeks 4 _ _ _
+    (c.remove_below.ensures.written r told) (omega arith)
 
 pub returns-in-None-clause-written : goal.returns-in-None-clause-written
 returns-in-None-clause-written g c = λ r told.
@@ -230,8 +256,10 @@ returns-in-None-clause-written g c = λ r told.
     let form = c.args.self.now.form in
     let root = c.args.root.now.items in
     let spot = c.in-Some.spot in
-    let seeks = subst (λ bytes. SeeksNode order form bytes c.args.key.now spot.i spot.hit spot.child) c.as_slice.ensures.value c.in-Some.ensures.some in
-    root_costs order valid laws form r root c.args.key.now spot.i spot.hit spot.child seeks 4 _ _ _ (c.remove_below.ensures.written r told) (omega arith)
+    let seeks = subst (λ bytes. SeeksNode order form bytes c.args.key.now spot.i spot.hit spot.child)
+    c.as_slice.ensures.value c.in-Some.ensures.some in
+    root_costs order valid laws form r root c.args.key.now spot.i spot.hit spot.child seeks 4 _ _ _
+    (c.remove_below.ensures.written r told) (omega arith)
 
 pub returns-in_ok-insert_in_root-in-Some-below-clause-written : goal.returns-in_ok-insert_in_root-in-Some-below-clause-written
 returns-in_ok-insert_in_root-in-Some-below-clause-written g c = λ r told.
@@ -241,8 +269,10 @@ returns-in_ok-insert_in_root-in-Some-below-clause-written g c = λ r told.
     let form = c.args.self.now.form in
     let root = c.args.root.now.items in
     let spot = c.in-Some.spot in
-    let seeks = subst (λ bytes. SeeksNode order form bytes c.args.key.now spot.i spot.hit spot.child) c.as_slice.ensures.value c.in-Some.ensures.some in
-    root_costs order valid laws form r root c.args.key.now spot.i spot.hit spot.child seeks 4 _ _ _ (c.remove_below.ensures.written r told) (let x = c.fit_root.ensures.written in omega (arith, x))
+    let seeks = subst (λ bytes. SeeksNode order form bytes c.args.key.now spot.i spot.hit spot.child)
+    c.as_slice.ensures.value c.in-Some.ensures.some in
+    root_costs order valid laws form r root c.args.key.now spot.i spot.hit spot.child seeks 4 _ _ _ (c.remove_below.ensures.written r told)
+    (let x = c.fit_root.ensures.written in omega (arith, x))
 
 pub returns-in_default-clause-leaf : goal.returns-in_default-clause-leaf
 returns-in_default-clause-leaf g c = λ r told node is depth s index leaf. (refl, refl)
@@ -255,11 +285,13 @@ returns-then-spot-clause-leaf g c = λ r told.
     let form = c.args.self.now.form in
     let root = c.args.root.now.items in
     let spot = c.in-Some.spot in
-    let seeks = subst (λ bytes. SeeksNode order form bytes c.args.key.now spot.i spot.hit spot.child) c.as_slice.ensures.value c.in-Some.ensures.some in
+    let seeks = subst (λ bytes. SeeksNode order form bytes c.args.key.now spot.i spot.hit spot.child)
+    c.as_slice.ensures.value c.in-Some.ensures.some in
     let full : ℕ = g.B.Blocks.full c.args.blocks.now in
     let before : ℕ = g.B.Blocks.taken c.args.blocks.now in
     let Still : Type 0 = g.B.Blocks.full c.remove_in_root.new.blocks ≡ full in
-    root_leaf order valid laws form r root c.args.key.now spot.i spot.hit spot.child seeks c.if-spot.true before (g.B.Blocks.taken c.remove_in_root.new.blocks) Still c.remove_in_root.ensures.leaf
+    root_leaf order valid laws form r root c.args.key.now spot.i spot.hit spot.child seeks c.if-spot.true before
+    (g.B.Blocks.taken c.remove_in_root.new.blocks) Still c.remove_in_root.ensures.leaf
 
 pub returns-in_err-below-clause-leaf : goal.returns-in_err-below-clause-leaf
 returns-in_err-below-clause-leaf g c = λ r told.
@@ -269,13 +301,16 @@ returns-in_err-below-clause-leaf g c = λ r told.
     let form = c.args.self.now.form in
     let root = c.args.root.now.items in
     let spot = c.in-Some.spot in
-    let seeks = subst (λ bytes. SeeksNode order form bytes c.args.key.now spot.i spot.hit spot.child) c.as_slice.ensures.value c.in-Some.ensures.some in
+    let seeks = subst (λ bytes. SeeksNode order form bytes c.args.key.now spot.i spot.hit spot.child)
+    c.as_slice.ensures.value c.in-Some.ensures.some in
     let full : ℕ = g.B.Blocks.full c.args.blocks.now in
     let before : ℕ = g.B.Blocks.taken c.args.blocks.now in
     let Below : Type 0 = (g.B.Blocks.full c.remove_below.new.blocks ≡ full) × IfOk c.remove_below.result NoneUp in
     let Still : Type 0 = g.B.Blocks.full c.remove_below.new.blocks ≡ full in
-    let step : (g.B.Blocks.taken c.remove_below.new.blocks ≡ before) → Below → (g.B.Blocks.taken c.remove_below.new.blocks ≡ before) × Still = λ a s. (a, s.0) in
-    root_leaf_below order valid laws form r root c.args.key.now spot.i spot.hit spot.child seeks c.if-spot.false before (g.B.Blocks.taken c.remove_below.new.blocks) (g.B.Blocks.taken c.remove_below.new.blocks) Below Still
+    let step : (g.B.Blocks.taken c.remove_below.new.blocks ≡ before) → Below
+    → (g.B.Blocks.taken c.remove_below.new.blocks ≡ before) × Still = λ a s. (a, s.0) in
+    root_leaf_below order valid laws form r root c.args.key.now spot.i spot.hit spot.child seeks c.if-spot.false before
+    (g.B.Blocks.taken c.remove_below.new.blocks) (g.B.Blocks.taken c.remove_below.new.blocks) Below Still
     (c.remove_below.ensures.leaf r told) step
 
 pub returns-in-None-clause-leaf : goal.returns-in-None-clause-leaf
@@ -286,13 +321,16 @@ returns-in-None-clause-leaf g c = λ r told.
     let form = c.args.self.now.form in
     let root = c.args.root.now.items in
     let spot = c.in-Some.spot in
-    let seeks = subst (λ bytes. SeeksNode order form bytes c.args.key.now spot.i spot.hit spot.child) c.as_slice.ensures.value c.in-Some.ensures.some in
+    let seeks = subst (λ bytes. SeeksNode order form bytes c.args.key.now spot.i spot.hit spot.child)
+    c.as_slice.ensures.value c.in-Some.ensures.some in
     let full : ℕ = g.B.Blocks.full c.args.blocks.now in
     let before : ℕ = g.B.Blocks.taken c.args.blocks.now in
     let Below : Type 0 = (g.B.Blocks.full c.remove_below.new.blocks ≡ full) × NoneUp c.in_ok-below.below in
     let Still : Type 0 = g.B.Blocks.full c.remove_below.new.blocks ≡ full in
-    let step : (g.B.Blocks.taken c.remove_below.new.blocks ≡ before) → Below → (g.B.Blocks.taken c.remove_below.new.blocks ≡ before) × Still = λ a s. (a, s.0) in
-    root_leaf_below order valid laws form r root c.args.key.now spot.i spot.hit spot.child seeks c.if-spot.false before (g.B.Blocks.taken c.remove_below.new.blocks) (g.B.Blocks.taken c.remove_below.new.blocks) Below Still
+    let step : (g.B.Blocks.taken c.remove_below.new.blocks ≡ before) → Below
+    → (g.B.Blocks.taken c.remove_below.new.blocks ≡ before) × Still = λ a s. (a, s.0) in
+    root_leaf_below order valid laws form r root c.args.key.now spot.i spot.hit spot.child seeks c.if-spot.false before
+    (g.B.Blocks.taken c.remove_below.new.blocks) (g.B.Blocks.taken c.remove_below.new.blocks) Below Still
     (c.in_ok-below.ensures.leaf r told) step
 
 pub returns-in_err-insert_in_root-in-Some-below-clause-leaf : goal.returns-in_err-insert_in_root-in-Some-below-clause-leaf
@@ -303,13 +341,16 @@ returns-in_err-insert_in_root-in-Some-below-clause-leaf g c = λ r told.
     let form = c.args.self.now.form in
     let root = c.args.root.now.items in
     let spot = c.in-Some.spot in
-    let seeks = subst (λ bytes. SeeksNode order form bytes c.args.key.now spot.i spot.hit spot.child) c.as_slice.ensures.value c.in-Some.ensures.some in
+    let seeks = subst (λ bytes. SeeksNode order form bytes c.args.key.now spot.i spot.hit spot.child)
+    c.as_slice.ensures.value c.in-Some.ensures.some in
     let full : ℕ = g.B.Blocks.full c.args.blocks.now in
     let before : ℕ = g.B.Blocks.taken c.args.blocks.now in
     let Below : Type 0 = (g.B.Blocks.full c.remove_below.new.blocks ≡ full) × NoneUp c.in_ok-below.below in
     let Still : Type 0 = g.B.Blocks.full c.remove_below.new.blocks ≡ full in
-    let step : (g.B.Blocks.taken c.remove_below.new.blocks ≡ before) → Below → (g.B.Blocks.taken c.remove_below.new.blocks ≡ before) × Still = λ a s. (a, s.0) in
-    root_leaf_below order valid laws form r root c.args.key.now spot.i spot.hit spot.child seeks c.if-spot.false before (g.B.Blocks.taken c.remove_below.new.blocks) (g.B.Blocks.taken c.remove_below.new.blocks) Below Still
+    let step : (g.B.Blocks.taken c.remove_below.new.blocks ≡ before) → Below
+    → (g.B.Blocks.taken c.remove_below.new.blocks ≡ before) × Still = λ a s. (a, s.0) in
+    root_leaf_below order valid laws form r root c.args.key.now spot.i spot.hit spot.child seeks c.if-spot.false before
+    (g.B.Blocks.taken c.remove_below.new.blocks) (g.B.Blocks.taken c.remove_below.new.blocks) Below Still
     (c.in_ok-below.ensures.leaf r told) step
 
 pub returns-in_ok-insert_in_root-in-Some-below-clause-leaf : goal.returns-in_ok-insert_in_root-in-Some-below-clause-leaf
@@ -320,13 +361,16 @@ returns-in_ok-insert_in_root-in-Some-below-clause-leaf g c = λ r told.
     let form = c.args.self.now.form in
     let root = c.args.root.now.items in
     let spot = c.in-Some.spot in
-    let seeks = subst (λ bytes. SeeksNode order form bytes c.args.key.now spot.i spot.hit spot.child) c.as_slice.ensures.value c.in-Some.ensures.some in
+    let seeks = subst (λ bytes. SeeksNode order form bytes c.args.key.now spot.i spot.hit spot.child)
+    c.as_slice.ensures.value c.in-Some.ensures.some in
     let full : ℕ = g.B.Blocks.full c.args.blocks.now in
     let before : ℕ = g.B.Blocks.taken c.args.blocks.now in
     let Below : Type 0 = (g.B.Blocks.full c.remove_below.new.blocks ≡ full) × NoneUp c.in_ok-below.below in
     let Still : Type 0 = g.B.Blocks.full c.fit_root.new.blocks ≡ full in
-    let step : (g.B.Blocks.taken c.remove_below.new.blocks ≡ before) → Below → (g.B.Blocks.taken c.fit_root.new.blocks ≡ before) × Still = λ a s. absurd (none_other (sym s.1 ∙ c.in-Some-below.is)) in
-    root_leaf_below order valid laws form r root c.args.key.now spot.i spot.hit spot.child seeks c.if-spot.false before (g.B.Blocks.taken c.remove_below.new.blocks) (g.B.Blocks.taken c.fit_root.new.blocks) Below Still
+    let step : (g.B.Blocks.taken c.remove_below.new.blocks ≡ before) → Below → (g.B.Blocks.taken c.fit_root.new.blocks ≡ before) × Still =
+    λ a s. absurd (none_other (sym s.1 ∙ c.in-Some-below.is)) in
+    root_leaf_below order valid laws form r root c.args.key.now spot.i spot.hit spot.child seeks c.if-spot.false before
+    (g.B.Blocks.taken c.remove_below.new.blocks) (g.B.Blocks.taken c.fit_root.new.blocks) Below Still
     (c.in_ok-below.ensures.leaf r told) step
 
 pub returns-in_ok-insert_in_root-in-Some-below-clause-root : goal.returns-in_ok-insert_in_root-in-Some-below-clause-root
@@ -347,7 +391,8 @@ returns-then-spot-clause-reads g c = λ r told node is depth s index.
     let root = c.args.root.now.items in
     let spot = c.in-Some.spot in
     c.remove_in_root.ensures.reads r told depth
-    (behind_of order valid laws form r root (record { node = node; is = is; depth = depth; small = omega arith; s = s; index = index }) spot.i)
+    (behind_of order valid laws form r root
+    (record { node = node; is = is; depth = depth; small = omega arith; s = s; index = index }) spot.i)
 
 pub returns-in_err-below-clause-reads : goal.returns-in_err-below-clause-reads
 returns-in_err-below-clause-reads g c = λ r told.
@@ -357,7 +402,8 @@ returns-in_err-below-clause-reads g c = λ r told.
     let form = c.args.self.now.form in
     let root = c.args.root.now.items in
     let spot = c.in-Some.spot in
-    let seeks = subst (λ bytes. SeeksNode order form bytes c.args.key.now spot.i spot.hit spot.child) c.as_slice.ensures.value c.in-Some.ensures.some in
+    let seeks = subst (λ bytes. SeeksNode order form bytes c.args.key.now spot.i spot.hit spot.child)
+    c.as_slice.ensures.value c.in-Some.ensures.some in
     root_reads order valid laws form r root c.args.key.now spot.i spot.hit spot.child seeks 2 _ _ (c.remove_below.ensures.reads r told)
 
 pub returns-in_err-insert_in_root-in-Some-below-clause-reads : goal.returns-in_err-insert_in_root-in-Some-below-clause-reads
@@ -368,7 +414,8 @@ returns-in_err-insert_in_root-in-Some-below-clause-reads g c = λ r told.
     let form = c.args.self.now.form in
     let root = c.args.root.now.items in
     let spot = c.in-Some.spot in
-    let seeks = subst (λ bytes. SeeksNode order form bytes c.args.key.now spot.i spot.hit spot.child) c.as_slice.ensures.value c.in-Some.ensures.some in
+    let seeks = subst (λ bytes. SeeksNode order form bytes c.args.key.now spot.i spot.hit spot.child)
+    c.as_slice.ensures.value c.in-Some.ensures.some in
     root_reads order valid laws form r root c.args.key.now spot.i spot.hit spot.child seeks 2 _ _ (c.remove_below.ensures.reads r told)
 
 pub returns-in-None-clause-reads : goal.returns-in-None-clause-reads
@@ -379,7 +426,8 @@ returns-in-None-clause-reads g c = λ r told.
     let form = c.args.self.now.form in
     let root = c.args.root.now.items in
     let spot = c.in-Some.spot in
-    let seeks = subst (λ bytes. SeeksNode order form bytes c.args.key.now spot.i spot.hit spot.child) c.as_slice.ensures.value c.in-Some.ensures.some in
+    let seeks = subst (λ bytes. SeeksNode order form bytes c.args.key.now spot.i spot.hit spot.child)
+    c.as_slice.ensures.value c.in-Some.ensures.some in
     root_reads order valid laws form r root c.args.key.now spot.i spot.hit spot.child seeks 2 _ _ (c.remove_below.ensures.reads r told)
 
 pub returns-in_ok-insert_in_root-in-Some-below-clause-reads : goal.returns-in_ok-insert_in_root-in-Some-below-clause-reads
@@ -390,5 +438,8 @@ returns-in_ok-insert_in_root-in-Some-below-clause-reads g c = λ r told.
     let form = c.args.self.now.form in
     let root = c.args.root.now.items in
     let spot = c.in-Some.spot in
-    let seeks = subst (λ bytes. SeeksNode order form bytes c.args.key.now spot.i spot.hit spot.child) c.as_slice.ensures.value c.in-Some.ensures.some in
-    root_reads order valid laws form r root c.args.key.now spot.i spot.hit spot.child seeks 2 _ _ (subst (EditCostsBelow 2 order valid (short_nodes form r) spot.child (g.B.Blocks.reads c.args.blocks.now)) (sym c.fit_root.ensures.reads) (c.remove_below.ensures.reads r told))
+    let seeks = subst (λ bytes. SeeksNode order form bytes c.args.key.now spot.i spot.hit spot.child)
+    c.as_slice.ensures.value c.in-Some.ensures.some in
+    root_reads order valid laws form r root c.args.key.now spot.i spot.hit spot.child seeks 2 _ _
+    (subst (EditCostsBelow 2 order valid (short_nodes form r) spot.child (g.B.Blocks.reads c.args.blocks.now))
+    (sym c.fit_root.ensures.reads) (c.remove_below.ensures.reads r told))

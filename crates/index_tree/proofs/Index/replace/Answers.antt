@@ -45,7 +45,8 @@ returns-then-spot-clause-replaced g c =
       on = λ r told. (
         r,
         told,
-        root_hit order valid total form r root spot.i spot.hit spot.child key c.in-Some.ensures.some item c.key_of-key.ensures c.requires.key
+        root_hit order valid total form r root spot.i spot.hit spot.child key c.in-Some.ensures.some item
+            c.key_of-key.ensures c.requires.key
             c.if-spot.true c.swap_item.new.node c.swap_item.ensures,
       );
     }
@@ -59,7 +60,8 @@ replace_below-requires-clause-tree g c = λ r told.
     let root = c.args.root.now in
     let spot = c.in-Some.spot in
     let key = c.key_of-key.result.now in
-    root_below order valid (is_order order total) form r root key spot.i spot.hit spot.child c.in-Some.ensures.some 15 (c.requires.index r told)
+    root_below order valid (is_order order total) form r root key spot.i spot.hit spot.child c.in-Some.ensures.some 15
+    (c.requires.index r told)
 
 pub returns-clause-replaced : goal.returns-clause-replaced
 returns-clause-replaced g c =
@@ -78,7 +80,8 @@ returns-clause-replaced g c =
           let a = done.on r told in (
             a.0,
             a.1,
-            root_through order valid total form r root spot.i spot.hit spot.child key c.in-Some.ensures.some item c.key_of-key.ensures c.requires.key
+            root_through order valid total form r root spot.i spot.hit spot.child key c.in-Some.ensures.some item
+                c.key_of-key.ensures c.requires.key
                 c.if-spot.false a.0 a.2,
           );
     })

@@ -88,7 +88,8 @@ returns-in_err-below-clause-fetched g t c r e =
     let read = read_node c.args.form r c.in-Some.vcn c.read.new.into n (c.in_ok-read.ensures.read r e) c.in-Ok.ensures.ok in
     subst (λ x. CostsBelow 8 side valid nodes x (g.B.Blocks.fetched c.args.blocks.now) (g.B.Blocks.fetched c.first_below.new.blocks))
     (sym c.in-Some.is)
-    (first_reads side valid nodes c.in-Some.vcn n read (number_of c.in-Some-seek_in.place) c.in-Some-seek_in.hit c.in-Some-seek_in.ensures.place 8
+    (first_reads side valid nodes c.in-Some.vcn n read
+    (number_of c.in-Some-seek_in.place) c.in-Some-seek_in.hit c.in-Some-seek_in.ensures.place 8
     (g.B.Blocks.fetched c.args.blocks.now) (g.B.Blocks.fetched c.read.new.self)
     (g.B.Blocks.fetched c.first_below.new.blocks) c.read.ensures.fetched
     (subst (λ b. CostsBelow 8 side valid nodes b (g.B.Blocks.fetched c.read.new.self)
@@ -122,7 +123,8 @@ returns-clause-fetched g t c r e =
     let read = read_node c.args.form r c.in-Some.vcn c.read.new.into n (c.in_ok-read.ensures.read r e) c.in-Ok.ensures.ok in
     subst (λ x. CostsBelow 8 side valid nodes x (g.B.Blocks.fetched c.args.blocks.now) (g.B.Blocks.fetched c.first_below.new.blocks))
     (sym c.in-Some.is)
-    (first_reads side valid nodes c.in-Some.vcn n read (number_of c.in-Some-seek_in.place) c.in-Some-seek_in.hit c.in-Some-seek_in.ensures.place 8
+    (first_reads side valid nodes c.in-Some.vcn n read
+    (number_of c.in-Some-seek_in.place) c.in-Some-seek_in.hit c.in-Some-seek_in.ensures.place 8
     (g.B.Blocks.fetched c.args.blocks.now) (g.B.Blocks.fetched c.read.new.self)
     (g.B.Blocks.fetched c.first_below.new.blocks) c.read.ensures.fetched
     (subst (λ b. CostsBelow 8 side valid nodes b (g.B.Blocks.fetched c.read.new.self)
@@ -139,8 +141,10 @@ returns-in_err-below-clause-reads g t c r e =
     let read = read_node c.args.form r c.in-Some.vcn c.read.new.into n (c.in_ok-read.ensures.read r e) c.in-Ok.ensures.ok in
     subst (λ x. CostsBelow 1 side valid nodes x (g.B.Blocks.reads c.args.blocks.now) (g.B.Blocks.reads c.first_below.new.blocks))
     (sym c.in-Some.is)
-    (first_reads side valid nodes c.in-Some.vcn n read (number_of c.in-Some-seek_in.place) c.in-Some-seek_in.hit c.in-Some-seek_in.ensures.place 1
-    (g.B.Blocks.reads c.args.blocks.now) (g.B.Blocks.reads c.read.new.self) (g.B.Blocks.reads c.first_below.new.blocks) (one_more _ _ c.read.ensures.reads)
+    (first_reads side valid nodes c.in-Some.vcn n read
+    (number_of c.in-Some-seek_in.place) c.in-Some-seek_in.hit c.in-Some-seek_in.ensures.place 1
+    (g.B.Blocks.reads c.args.blocks.now) (g.B.Blocks.reads c.read.new.self) (g.B.Blocks.reads c.first_below.new.blocks)
+    (one_more _ _ c.read.ensures.reads)
     (subst (λ b. CostsBelow 1 side valid nodes b (g.B.Blocks.reads c.read.new.self)
     (g.B.Blocks.reads c.first_below.new.blocks)) child
     (c.first_below.ensures.reads r (c.read.ensures.records ∙ e))))
@@ -155,8 +159,10 @@ returns-clause-reads g t c r e =
     let read = read_node c.args.form r c.in-Some.vcn c.read.new.into n (c.in_ok-read.ensures.read r e) c.in-Ok.ensures.ok in
     subst (λ x. CostsBelow 1 side valid nodes x (g.B.Blocks.reads c.args.blocks.now) (g.B.Blocks.reads c.first_below.new.blocks))
     (sym c.in-Some.is)
-    (first_reads side valid nodes c.in-Some.vcn n read (number_of c.in-Some-seek_in.place) c.in-Some-seek_in.hit c.in-Some-seek_in.ensures.place 1
-    (g.B.Blocks.reads c.args.blocks.now) (g.B.Blocks.reads c.read.new.self) (g.B.Blocks.reads c.first_below.new.blocks) (one_more _ _ c.read.ensures.reads)
+    (first_reads side valid nodes c.in-Some.vcn n read
+    (number_of c.in-Some-seek_in.place) c.in-Some-seek_in.hit c.in-Some-seek_in.ensures.place 1
+    (g.B.Blocks.reads c.args.blocks.now) (g.B.Blocks.reads c.read.new.self) (g.B.Blocks.reads c.first_below.new.blocks)
+    (one_more _ _ c.read.ensures.reads)
     (subst (λ b. CostsBelow 1 side valid nodes b (g.B.Blocks.reads c.read.new.self)
     (g.B.Blocks.reads c.first_below.new.blocks)) child
     (c.first_below.ensures.reads r (c.read.ensures.records ∙ e))))

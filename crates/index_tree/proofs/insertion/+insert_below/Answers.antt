@@ -6,7 +6,8 @@ use Rattle.index_tree.specs.Edit.{HasSorted, InsertsBelow, EditCostsBelow, Keeps
 use Rattle.index_tree.proofs.OrderLaws.{is_order}
 use Rattle.index_tree.proofs.EditCalls.{inserts_nothing}
 use Rattle.index_tree.proofs.EditMemory.{edits_after, short_in}
-use Rattle.index_tree.proofs.EditSteps.{is_short, level_more, never_none, node_there, record_there, below, costs, done_none, done_some, still, alone}
+use Rattle.index_tree.proofs.EditSteps.{is_short, level_more, never_none, node_there, record_there, below, costs, done_none}
+use Rattle.index_tree.proofs.EditSteps.{done_some, still, alone}
 use Rattle.index_tree.proofs.Rising.{one_more}
 use Rattle.list_laws.proofs.OptionLaws.{some_same}
 use Rattle.index_tree.proofs.KeyedLaws.{keyed_same, keyed_trans, placed_keyed, some_put}
@@ -30,7 +31,8 @@ returns-in_default-clause-done g t c =
       on = λ r told. (
         r,
         told,
-        subst (λ child. InsertsBelow order valid (short_nodes c.args.form r) (short_nodes c.args.form r) child item (Some (entry_in c.in_ok-copy.field-0))) (sym c.in_default.is)
+        subst (λ child. InsertsBelow order valid (short_nodes c.args.form r) (short_nodes c.args.form r) child item
+            (Some (entry_in c.in_ok-copy.field-0))) (sym c.in_default.is)
             (subst (λ e. InsertsBelow order valid (short_nodes c.args.form r) (short_nodes c.args.form r) None item (Some e))
             (alone c.args.form c.args.entry.now c.requires.entry.one ∙ ap entry_in (sym c.in_ok-copy.ensures))
             (inserts_nothing order valid (short_nodes c.args.form r) item)),
@@ -44,7 +46,8 @@ returns-then-level-eq0-clause-done g t c =
     record {
       back = λ r told. (r, told);
       on = λ r told.
-          let can = subst (λ child. HasSorted order valid (short_nodes c.args.form r) child c.args.level) c.in-Some.is (c.requires.tree r told) in
+          let can = subst (λ child. HasSorted order valid (short_nodes c.args.form r) child c.args.level) c.in-Some.is
+          (c.requires.tree r told) in
           let some = level_more order valid (short_nodes c.args.form r) c.in-Some.vcn c.args.level can in
           absurd (omega (arith, some, c.if-level-eq0.true));
     }
@@ -64,8 +67,10 @@ returns-in_default-seek_block-clause-done g t c =
     record {
       back = λ r told. (r, sym c.in_ok-read.ensures.records ∙ told);
       on = λ r told.
-          let can = subst (λ child. HasSorted order valid (short_nodes c.args.form r) child c.args.level) c.in-Some.is (c.requires.tree r told) in
-          absurd (never_none order valid (is_order order (g.met.C.Collation.is_order c.args.order.now)) c.args.form r c.in-Some.vcn c.args.level can c.read.new.into
+          let can = subst (λ child. HasSorted order valid (short_nodes c.args.form r) child c.args.level) c.in-Some.is
+          (c.requires.tree r told) in
+          absurd (never_none order valid (is_order order (g.met.C.Collation.is_order c.args.order.now))
+          c.args.form r c.in-Some.vcn c.args.level can c.read.new.into
           (c.in_ok-read.ensures.read r told) c.in_default-seek_block.ensures.none);
     }
 
@@ -87,7 +92,8 @@ insert_below-requires g t c κs within =
             (
               (λ r told'.
                   let told = sym c.in_ok-read.ensures.records ∙ told' in
-                  let can = subst (λ child. HasSorted order valid (short_nodes c.args.form r) child c.args.level) c.in-Some.is (c.requires.tree r told) in
+                  let can = subst (λ child. HasSorted order valid (short_nodes c.args.form r) child c.args.level) c.in-Some.is
+                  (c.requires.tree r told) in
                   below order valid laws c.args.form r c.in-Some.vcn c.args.level can block (c.in_ok-read.ensures.read r told)
                   spot.i spot.hit spot.child c.args.key.now c.in-Some-seek_block.ensures.some),
               (c.requires.entry, (c.requires.is_key, c.requires.key)),
@@ -105,10 +111,12 @@ returns-in_err-insert_below-clause-taken g t c = λ r told.
     let spot = c.in-Some-seek_block.spot in
     let block = c.read.new.into in
     let can = subst (λ child. HasSorted order valid (short_nodes c.args.form r) child c.args.level) c.in-Some.is (c.requires.tree r told) in
-    subst (λ child. EditCostsBelow 1 order valid (short_nodes c.args.form r) child (g.B.Blocks.taken c.args.blocks.now) (g.B.Blocks.taken c.insert_below.new.blocks)) (sym c.in-Some.is)
+    subst (λ child. EditCostsBelow 1 order valid (short_nodes c.args.form r) child (g.B.Blocks.taken c.args.blocks.now)
+    (g.B.Blocks.taken c.insert_below.new.blocks)) (sym c.in-Some.is)
     (costs order valid laws c.args.form r c.in-Some.vcn c.args.level can block (c.in_ok-read.ensures.read r told)
     spot.i spot.hit spot.child c.args.key.now c.in-Some-seek_block.ensures.some 1 _ _ _
-    (subst (λ b. EditCostsBelow 1 order valid (short_nodes c.args.form r) spot.child b (g.B.Blocks.taken c.insert_below.new.blocks)) c.in_ok-read.ensures.taken
+    (subst (λ b. EditCostsBelow 1 order valid (short_nodes c.args.form r) spot.child b (g.B.Blocks.taken c.insert_below.new.blocks))
+    c.in_ok-read.ensures.taken
     (c.insert_below.ensures.taken r (c.in_ok-read.ensures.records ∙ told))) (omega arith))
 
 pub put_up-requires-clause-there : goal.put_up-requires-clause-there
@@ -143,13 +151,16 @@ returns-in-None-clause-done g t c =
       back = λ r1 told1. let e = edits_after done r1 told1 in (e.0, sym c.in_ok-read.ensures.records ∙ e.1);
       on = λ r told.
           let a = done.on r (c.in_ok-read.ensures.records ∙ told) in
-          let can = subst (λ child. HasSorted order valid (short_nodes c.args.form r) child c.args.level) c.in-Some.is (c.requires.tree r told) in (
+          let can = subst (λ child. HasSorted order valid (short_nodes c.args.form r) child c.args.level) c.in-Some.is
+          (c.requires.tree r told) in (
             a.0,
             a.1,
-            subst (λ child. InsertsBelow order valid (short_nodes c.args.form r) (short_nodes c.args.form a.0) child (item_in c.args.entry.now) None) (sym c.in-Some.is)
+            subst (λ child. InsertsBelow order valid (short_nodes c.args.form r) (short_nodes c.args.form a.0) child
+                (item_in c.args.entry.now) None) (sym c.in-Some.is)
                 (done_none order valid laws c.args.form r c.in-Some.vcn c.args.level can block (c.in_ok-read.ensures.read r told)
                 spot.i spot.hit spot.child c.args.key.now c.in-Some-seek_block.ensures.some (item_in c.args.entry.now) c.requires.is_key a.0
-                (subst (λ up. InsertsBelow order valid (short_nodes c.args.form r) (short_nodes c.args.form a.0) spot.child (item_in c.args.entry.now) (option_map entry_in up)) c.in-None.is a.2)),
+                (subst (λ up. InsertsBelow order valid (short_nodes c.args.form r) (short_nodes c.args.form a.0) spot.child
+                (item_in c.args.entry.now) (option_map entry_in up)) c.in-None.is a.2)),
           );
     }
 
@@ -161,10 +172,12 @@ returns-in-None-clause-taken g t c = λ r told.
     let spot = c.in-Some-seek_block.spot in
     let block = c.read.new.into in
     let can = subst (λ child. HasSorted order valid (short_nodes c.args.form r) child c.args.level) c.in-Some.is (c.requires.tree r told) in
-    subst (λ child. EditCostsBelow 1 order valid (short_nodes c.args.form r) child (g.B.Blocks.taken c.args.blocks.now) (g.B.Blocks.taken c.insert_below.new.blocks)) (sym c.in-Some.is)
+    subst (λ child. EditCostsBelow 1 order valid (short_nodes c.args.form r) child (g.B.Blocks.taken c.args.blocks.now)
+    (g.B.Blocks.taken c.insert_below.new.blocks)) (sym c.in-Some.is)
     (costs order valid laws c.args.form r c.in-Some.vcn c.args.level can block (c.in_ok-read.ensures.read r told)
     spot.i spot.hit spot.child c.args.key.now c.in-Some-seek_block.ensures.some 1 _ _ _
-    (subst (λ b. EditCostsBelow 1 order valid (short_nodes c.args.form r) spot.child b (g.B.Blocks.taken c.insert_below.new.blocks)) c.in_ok-read.ensures.taken
+    (subst (λ b. EditCostsBelow 1 order valid (short_nodes c.args.form r) spot.child b (g.B.Blocks.taken c.insert_below.new.blocks))
+    c.in_ok-read.ensures.taken
     (c.insert_below.ensures.taken r (c.in_ok-read.ensures.records ∙ told))) (omega arith))
 
 pub returns-in-Some-2-clause-done : goal.returns-in-Some-2-clause-done
@@ -184,15 +197,19 @@ returns-in-Some-2-clause-done g t c =
       on = λ r told.
           let a = done.on r (c.in_ok-read.ensures.records ∙ told) in
           let b = placed.on a.0 a.1 in
-          let can = subst (λ child. HasSorted order valid (short_nodes c.args.form r) child c.args.level) c.in-Some.is (c.requires.tree r told) in (
+          let can = subst (λ child. HasSorted order valid (short_nodes c.args.form r) child c.args.level) c.in-Some.is
+          (c.requires.tree r told) in (
             b.0,
             b.1,
-            subst (λ child. InsertsBelow order valid (short_nodes c.args.form r) (short_nodes c.args.form b.0) child (item_in c.args.entry.now) (option_map entry_in out)) (sym c.in-Some.is)
+            subst (λ child. InsertsBelow order valid (short_nodes c.args.form r) (short_nodes c.args.form b.0) child
+                (item_in c.args.entry.now) (option_map entry_in out)) (sym c.in-Some.is)
                 (done_some order valid laws c.args.form r c.in-Some.vcn c.args.level can block (c.in_ok-read.ensures.read r told)
                 spot.i spot.hit spot.child c.args.key.now c.in-Some-seek_block.ensures.some (item_in c.args.entry.now) c.requires.is_key a.0
                 c.as_slice.result.now
-                (subst (λ bytes. InsertsBelow order valid (short_nodes c.args.form r) (short_nodes c.args.form a.0) spot.child (item_in c.args.entry.now) (Some (entry_in bytes))) (sym c.as_slice.ensures)
-                (subst (λ up. InsertsBelow order valid (short_nodes c.args.form r) (short_nodes c.args.form a.0) spot.child (item_in c.args.entry.now) (option_map entry_in up)) c.in-Some-2.is a.2))
+                (subst (λ bytes. InsertsBelow order valid (short_nodes c.args.form r) (short_nodes c.args.form a.0) spot.child
+                (item_in c.args.entry.now) (Some (entry_in bytes))) (sym c.as_slice.ensures)
+                (subst (λ up. InsertsBelow order valid (short_nodes c.args.form r) (short_nodes c.args.form a.0) spot.child
+                (item_in c.args.entry.now) (option_map entry_in up)) c.in-Some-2.is a.2))
                 b.0 out b.2),
           );
     })
@@ -206,10 +223,12 @@ returns-in-Some-2-clause-taken g t c = λ r told.
     let spot = c.in-Some-seek_block.spot in
     let block = c.read.new.into in
     let can = subst (λ child. HasSorted order valid (short_nodes c.args.form r) child c.args.level) c.in-Some.is (c.requires.tree r told) in
-    subst (λ child. EditCostsBelow 1 order valid (short_nodes c.args.form r) child (g.B.Blocks.taken c.args.blocks.now) (g.B.Blocks.taken c.put_up.new.blocks)) (sym c.in-Some.is)
+    subst (λ child. EditCostsBelow 1 order valid (short_nodes c.args.form r) child (g.B.Blocks.taken c.args.blocks.now)
+    (g.B.Blocks.taken c.put_up.new.blocks)) (sym c.in-Some.is)
     (costs order valid laws c.args.form r c.in-Some.vcn c.args.level can block (c.in_ok-read.ensures.read r told)
     spot.i spot.hit spot.child c.args.key.now c.in-Some-seek_block.ensures.some 1 _ _ _
-    (subst (λ b. EditCostsBelow 1 order valid (short_nodes c.args.form r) spot.child b (g.B.Blocks.taken c.insert_below.new.blocks)) c.in_ok-read.ensures.taken
+    (subst (λ b. EditCostsBelow 1 order valid (short_nodes c.args.form r) spot.child b (g.B.Blocks.taken c.insert_below.new.blocks))
+    c.in_ok-read.ensures.taken
     (c.insert_below.ensures.taken r (c.in_ok-read.ensures.records ∙ told))) c.put_up.ensures.taken)
 
 pub returns-in_err-insert_below-clause-written : goal.returns-in_err-insert_below-clause-written
@@ -220,7 +239,8 @@ returns-in_err-insert_below-clause-written g t c = λ r told.
     let spot = c.in-Some-seek_block.spot in
     let block = c.read.new.into in
     let can = subst (λ child. HasSorted order valid (short_nodes c.args.form r) child c.args.level) c.in-Some.is (c.requires.tree r told) in
-    subst (λ child. EditCostsBelow 3 order valid (short_nodes c.args.form r) child (g.B.WriteBlocks.written c.args.blocks.now) (g.B.WriteBlocks.written c.insert_below.new.blocks)) (sym c.in-Some.is)
+    subst (λ child. EditCostsBelow 3 order valid (short_nodes c.args.form r) child (g.B.WriteBlocks.written c.args.blocks.now)
+    (g.B.WriteBlocks.written c.insert_below.new.blocks)) (sym c.in-Some.is)
     (costs order valid laws c.args.form r c.in-Some.vcn c.args.level can block (c.in_ok-read.ensures.read r told)
     spot.i spot.hit spot.child c.args.key.now c.in-Some-seek_block.ensures.some 3 _ _ _
     (subst (λ b. EditCostsBelow 3 order valid (short_nodes c.args.form r) spot.child b (g.B.WriteBlocks.written c.insert_below.new.blocks))
@@ -235,7 +255,8 @@ returns-in-None-clause-written g t c = λ r told.
     let spot = c.in-Some-seek_block.spot in
     let block = c.read.new.into in
     let can = subst (λ child. HasSorted order valid (short_nodes c.args.form r) child c.args.level) c.in-Some.is (c.requires.tree r told) in
-    subst (λ child. EditCostsBelow 3 order valid (short_nodes c.args.form r) child (g.B.WriteBlocks.written c.args.blocks.now) (g.B.WriteBlocks.written c.insert_below.new.blocks)) (sym c.in-Some.is)
+    subst (λ child. EditCostsBelow 3 order valid (short_nodes c.args.form r) child (g.B.WriteBlocks.written c.args.blocks.now)
+    (g.B.WriteBlocks.written c.insert_below.new.blocks)) (sym c.in-Some.is)
     (costs order valid laws c.args.form r c.in-Some.vcn c.args.level can block (c.in_ok-read.ensures.read r told)
     spot.i spot.hit spot.child c.args.key.now c.in-Some-seek_block.ensures.some 3 _ _ _
     (subst (λ b. EditCostsBelow 3 order valid (short_nodes c.args.form r) spot.child b (g.B.WriteBlocks.written c.insert_below.new.blocks))
@@ -250,7 +271,8 @@ returns-in-Some-2-clause-written g t c = λ r told.
     let spot = c.in-Some-seek_block.spot in
     let block = c.read.new.into in
     let can = subst (λ child. HasSorted order valid (short_nodes c.args.form r) child c.args.level) c.in-Some.is (c.requires.tree r told) in
-    subst (λ child. EditCostsBelow 3 order valid (short_nodes c.args.form r) child (g.B.WriteBlocks.written c.args.blocks.now) (g.B.WriteBlocks.written c.put_up.new.blocks)) (sym c.in-Some.is)
+    subst (λ child. EditCostsBelow 3 order valid (short_nodes c.args.form r) child (g.B.WriteBlocks.written c.args.blocks.now)
+    (g.B.WriteBlocks.written c.put_up.new.blocks)) (sym c.in-Some.is)
     (costs order valid laws c.args.form r c.in-Some.vcn c.args.level can block (c.in_ok-read.ensures.read r told)
     spot.i spot.hit spot.child c.args.key.now c.in-Some-seek_block.ensures.some 3 _ _ _
     (subst (λ b. EditCostsBelow 3 order valid (short_nodes c.args.form r) spot.child b (g.B.WriteBlocks.written c.insert_below.new.blocks))
@@ -270,7 +292,8 @@ returns-in_default-seek_block-clause-written g t c = λ r told depth tree sorted
 pub returns-in-Some-2-clause-edits : goal.returns-in-Some-2-clause-edits
 returns-in-Some-2-clause-edits g t c =
     let laws = g.met.B.WriteBlocks in
-    laws.edits_on _ _ _ (laws.edits_reads _ _ c.in_ok-read.ensures.only_reads) (laws.edits_on _ _ _ c.insert_below.ensures.edits c.put_up.ensures.edits)
+    laws.edits_on _ _ _ (laws.edits_reads _ _ c.in_ok-read.ensures.only_reads)
+    (laws.edits_on _ _ _ c.insert_below.ensures.edits c.put_up.ensures.edits)
 
 pub returns-in_err-insert_below-clause-reads : goal.returns-in_err-insert_below-clause-reads
 returns-in_err-insert_below-clause-reads g t c = λ r told.
@@ -282,7 +305,8 @@ returns-in_err-insert_below-clause-reads g t c = λ r told.
     let mid : ℕ = g.B.Blocks.reads c.read.new.self in
     let after : ℕ = g.B.Blocks.reads c.insert_below.new.blocks in
     let e = one_more (g.B.Blocks.reads c.args.blocks.now) mid c.in_ok-read.ensures.reads in
-    subst (λ child. EditCostsBelow 1 order valid (short_nodes c.args.form r) child (g.B.Blocks.reads c.args.blocks.now) (g.B.Blocks.reads c.insert_below.new.blocks)) (sym c.in-Some.is)
+    subst (λ child. EditCostsBelow 1 order valid (short_nodes c.args.form r) child (g.B.Blocks.reads c.args.blocks.now)
+    (g.B.Blocks.reads c.insert_below.new.blocks)) (sym c.in-Some.is)
     (λ depth tree sorted.
     let k = costs order valid laws c.args.form r c.in-Some.vcn c.args.level can c.read.new.into (c.in_ok-read.ensures.read r told)
     spot.i spot.hit spot.child c.args.key.now c.in-Some-seek_block.ensures.some 1 mid after (after + 1)
@@ -299,7 +323,8 @@ returns-in-None-clause-reads g t c = λ r told.
     let mid : ℕ = g.B.Blocks.reads c.read.new.self in
     let after : ℕ = g.B.Blocks.reads c.insert_below.new.blocks in
     let e = one_more (g.B.Blocks.reads c.args.blocks.now) mid c.in_ok-read.ensures.reads in
-    subst (λ child. EditCostsBelow 1 order valid (short_nodes c.args.form r) child (g.B.Blocks.reads c.args.blocks.now) (g.B.Blocks.reads c.insert_below.new.blocks)) (sym c.in-Some.is)
+    subst (λ child. EditCostsBelow 1 order valid (short_nodes c.args.form r) child (g.B.Blocks.reads c.args.blocks.now)
+    (g.B.Blocks.reads c.insert_below.new.blocks)) (sym c.in-Some.is)
     (λ depth tree sorted.
     let k = costs order valid laws c.args.form r c.in-Some.vcn c.args.level can c.read.new.into (c.in_ok-read.ensures.read r told)
     spot.i spot.hit spot.child c.args.key.now c.in-Some-seek_block.ensures.some 1 mid after (after + 1)
@@ -316,7 +341,8 @@ returns-in-Some-2-clause-reads g t c = λ r told.
     let mid : ℕ = g.B.Blocks.reads c.read.new.self in
     let after : ℕ = g.B.Blocks.reads c.insert_below.new.blocks in
     let e = one_more (g.B.Blocks.reads c.args.blocks.now) mid c.in_ok-read.ensures.reads in
-    subst (λ child. EditCostsBelow 1 order valid (short_nodes c.args.form r) child (g.B.Blocks.reads c.args.blocks.now) (g.B.Blocks.reads c.put_up.new.blocks)) (sym c.in-Some.is)
+    subst (λ child. EditCostsBelow 1 order valid (short_nodes c.args.form r) child (g.B.Blocks.reads c.args.blocks.now)
+    (g.B.Blocks.reads c.put_up.new.blocks)) (sym c.in-Some.is)
     (λ depth tree sorted.
     let k = costs order valid laws c.args.form r c.in-Some.vcn c.args.level can c.read.new.into (c.in_ok-read.ensures.read r told)
     spot.i spot.hit spot.child c.args.key.now c.in-Some-seek_block.ensures.some 1 mid after (after + 1)
@@ -325,11 +351,13 @@ returns-in-Some-2-clause-reads g t c = λ r told.
 
 pub returns-in_default-clause-keyed : goal.returns-in_default-clause-keyed
 returns-in_default-clause-keyed g t c = λ r told r' told'.
-    subst (λ q. KeepsKeyed (short_nodes c.args.form r) (short_nodes c.args.form q)) (some_same (sym told ∙ told')) (keyed_same (short_nodes c.args.form r))
+    subst (λ q. KeepsKeyed (short_nodes c.args.form r) (short_nodes c.args.form q)) (some_same (sym told ∙ told'))
+    (keyed_same (short_nodes c.args.form r))
 
 pub returns-then-level-eq0-clause-keyed : goal.returns-then-level-eq0-clause-keyed
 returns-then-level-eq0-clause-keyed g t c = λ r told r' told'.
-    subst (λ q. KeepsKeyed (short_nodes c.args.form r) (short_nodes c.args.form q)) (some_same (sym told ∙ told')) (keyed_same (short_nodes c.args.form r))
+    subst (λ q. KeepsKeyed (short_nodes c.args.form r) (short_nodes c.args.form q)) (some_same (sym told ∙ told'))
+    (keyed_same (short_nodes c.args.form r))
 
 pub returns-in_default-seek_block-clause-keyed : goal.returns-in_default-seek_block-clause-keyed
 returns-in_default-seek_block-clause-keyed g t c = λ r told r' told'.
@@ -358,6 +386,7 @@ returns-in-Some-2-clause-keyed g t c =
     let within = (c.in-Some-seek_block.ensures.some.found n (short_in form c.read.new.into n short)).within in
     subst (λ q. KeepsKeyed (short_nodes form r) (short_nodes form q)) (some_same (sym b.1 ∙ told'))
     (keyed_trans (short_nodes form r) (short_nodes form a.0) (short_nodes form b.0) (c.in_ok-insert_below.ensures.keyed r mid a.0 a.1)
-    (placed_keyed (short_nodes form a.0) (short_nodes form b.0) c.in-Some.vcn (with_entry_at n spot.i (entry_in c.as_slice.result.now)) (option_map entry_in out)
+    (placed_keyed (short_nodes form a.0) (short_nodes form b.0) c.in-Some.vcn (with_entry_at n spot.i (entry_in c.as_slice.result.now))
+    (option_map entry_in out)
     (b.2 n short) (some_put n.entries spot.i (entry_in c.as_slice.result.now) within))))
     c.put_up.ensures.placed

@@ -27,8 +27,10 @@ returns-clause-fits g c = record {
         λ said is. (
           _,
           c.in_ok-empty_root.ensures.short,
-          inr (moved_down c.sealed_nodes.ensures.place c.sealed_nodes.ensures.short c.args.form c.in_ok-vcn.vcn c.in-Some.down r t.0 w.0 t.2 w.2
-              c.in-Some.ensures.holds.opened.len said (c.in-Some.ensures.holds.short said (ap (short_node c.args.form) c.as_slice.ensures.value ∙ is))),
+          inr (moved_down c.sealed_nodes.ensures.place c.sealed_nodes.ensures.short c.args.form c.in_ok-vcn.vcn
+              c.in-Some.down r t.0 w.0 t.2 w.2
+              c.in-Some.ensures.holds.opened.len said
+              (c.in-Some.ensures.holds.short said (ap (short_node c.args.form) c.as_slice.ensures.value ∙ is))),
         ),
       );
 }

@@ -19,7 +19,8 @@ insert_at-requires-clause-place g c =
     record { said = p.said; is = c.in-Some.ensures.holds.node p.said p.is; within = p.within }
 
 pub insert_at-requires-clause-one : goal.insert_at-requires-clause-one
-insert_at-requires-clause-one g c = subst (λ b. IsTrue (is_one_entry c.args.form b c.args.up.now)) (sym c.in-Some.ensures.holds.children) c.requires.up.one
+insert_at-requires-clause-one g c =
+    subst (λ b. IsTrue (is_one_entry c.args.form b c.args.up.now)) (sym c.in-Some.ensures.holds.children) c.requires.up.one
 
 pub write-requires-clause-opened : goal.write-requires-clause-opened
 write-requires-clause-opened g c = λ r told. c.in-Ok.ensures.ok.opened c.args.vcn c.in-Some.ensures.holds.opened
@@ -36,11 +37,17 @@ split_up-requires-clause-opened g c = λ r told. subst (IsOpened c.args.vcn) (sy
 pub split_up-requires-clause-place : goal.split_up-requires-clause-place
 split_up-requires-clause-place g c =
     let p = c.requires.place in
-    record { said = p.said; is = ap (node_in c.args.form) c.in-Err.ensures.kept ∙ c.in-Some.ensures.holds.node p.said p.is; within = p.within }
+    record {
+      said = p.said;
+      is = ap (node_in c.args.form) c.in-Err.ensures.kept
+          ∙ c.in-Some.ensures.holds.node p.said p.is;
+      within = p.within;
+    }
 
 pub split_up-requires-clause-up : goal.split_up-requires-clause-up
 split_up-requires-clause-up g c =
-    subst (λ b. IsShortEntry c.args.form b c.args.up.now) (sym (ap has_children c.in-Err.ensures.kept ∙ c.in-Some.ensures.holds.children)) c.requires.up
+    subst (λ b. IsShortEntry c.args.form b c.args.up.now)
+    (sym (ap has_children c.in-Err.ensures.kept ∙ c.in-Some.ensures.holds.children)) c.requires.up
 
 pub returns-in_ok-write-in-Ok-clause-placed : goal.returns-in_ok-write-in-Ok-clause-placed
 returns-in_ok-write-in-Ok-clause-placed g c =
@@ -54,7 +61,8 @@ returns-in_ok-write-in-Ok-clause-placed g c =
             λ said is.
                 wrote c.sealed_nodes.ensures.place c.sealed_nodes.ensures.short c.args.form c.args.vcn c.insert_at.new.node r a.0 a.2
                 (c.in-Ok.ensures.ok.opened c.args.vcn c.in-Some.ensures.holds.opened).len _
-                (c.in-Ok.ensures.ok.short (subst (λ b. length c.args.up.now ≤ most_len b) (sym c.in-Some.ensures.holds.children) c.requires.up.short)
+                (c.in-Ok.ensures.ok.short
+                (subst (λ b. length c.args.up.now ≤ most_len b) (sym c.in-Some.ensures.holds.children) c.requires.up.short)
                 said (c.in-Some.ensures.holds.short said is)),
           );
     }

@@ -52,7 +52,8 @@ returns-clause-placed g c =
     → 4000 ≤ entries_len c.args.block.now said + length c.args.up.now =
     λ said is.
     let crowd = c.requires.crowded said is in
-    subst (λ (m : Node). 4000 ≤ entries_len c.args.block.now m + length c.args.up.now) (some_same (sym crowd.is ∙ is)) (omega (arith, crowd.full)) in
+    subst (λ (m : Node). 4000 ≤ entries_len c.args.block.now m + length c.args.up.now) (some_same (sym crowd.is ∙ is))
+    (omega (arith, crowd.full)) in
     record {
       back = λ after told.
           let w' = edits_after c.in_ok-write-2.ensures.done after told in
@@ -66,9 +67,11 @@ returns-clause-placed g c =
             w'.0,
             w'.1,
             λ said is.
-                split c.sealed_nodes.ensures.place c.sealed_nodes.ensures.short c.args.form c.args.vcn c.in_ok-new.new c.split_with.new.node c.split_with.new.left
+                split c.sealed_nodes.ensures.place c.sealed_nodes.ensures.short c.args.form c.args.vcn c.in_ok-new.new
+                c.split_with.new.node c.split_with.new.left
                 r t.0 w.0 w'.0 t.2 w.2 w'.2
-                ((splits _ c.in-Some.is c.in_ok-out.ensures.split).opened c.args.vcn (c.requires.opened r told)).len (splits _ c.in-Some.is c.in_ok-out.ensures.split).opened_left.len _ _
+                ((splits _ c.in-Some.is c.in_ok-out.ensures.split).opened c.args.vcn (c.requires.opened r told)).len
+                (splits _ c.in-Some.is c.in_ok-out.ensures.split).opened_left.len _ _
                 ((splits _ c.in-Some.is c.in_ok-out.ensures.split).parts said is)
                 ((splits _ c.in-Some.is c.in_ok-out.ensures.split).halves said is (many said is)),
           );

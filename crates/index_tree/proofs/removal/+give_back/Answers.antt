@@ -15,7 +15,8 @@ OnOk-map (Err e) f h = tt
 
 pub read-requires-clause-there : goal.read-requires-clause-there
 read-requires-clause-there g t c = λ r told.
-    tree_record c.args.form r c.in-Some.vcn c.args.level (subst (λ child. HasTree (short_nodes c.args.form r) child c.args.level) c.in-Some.is (c.requires.tree r told))
+    tree_record c.args.form r c.in-Some.vcn c.args.level
+    (subst (λ child. HasTree (short_nodes c.args.form r) child c.args.level) c.in-Some.is (c.requires.tree r told))
 
 pub give_back-requires : goal.give_back-requires
 give_back-requires g t c κs within =
@@ -59,7 +60,8 @@ returns-clause-done g t c =
 pub returns-clause-edits : goal.returns-clause-edits
 returns-clause-edits g t c =
     let laws = g.met.B.WriteBlocks in
-    laws.edits_on _ _ _ (laws.edits_reads _ _ c.in_ok-read.ensures.only_reads) (laws.edits_on _ _ _ c.in_ok-give.ensures.edits c.give_back.ensures.edits)
+    laws.edits_on _ _ _ (laws.edits_reads _ _ c.in_ok-read.ensures.only_reads)
+    (laws.edits_on _ _ _ c.in_ok-give.ensures.edits c.give_back.ensures.edits)
 
 pub returns-in_err-read-clause-reads : goal.returns-in_err-read-clause-reads
 returns-in_err-read-clause-reads g t c = λ r told level has.

@@ -9,7 +9,8 @@ use Rattle.index_node.specs.View.{bytes_of, node_of_view}
 use Rattle.index_node.proofs.SplitLaws.{own_child}
 use Rattle.index_tree.proofs.EditMemory.{apart_of, is_some_of, edits_after}
 use Rattle.index_tree.proofs.RemoveLaws.{level_held}
-use Rattle.index_tree.proofs.RemoveSteps.{tree_record, tree_refused, tree_short, below_tree, taken_below, first_short, still_first, off_first, none_here, first_here}
+use Rattle.index_tree.proofs.RemoveSteps.{tree_record, tree_refused, tree_short, below_tree, taken_below, first_short, still_first}
+use Rattle.index_tree.proofs.RemoveSteps.{off_first, none_here, first_here}
 use Rattle.vol_disk.specs.Contents.{WhereTold}
 use Rattle.index_tree.specs.Remove.{CostsLevel}
 use Rattle.index_tree.proofs.Rising.{one_more}
@@ -26,14 +27,16 @@ returns-then-level-eq0-clause-done g t c = record {
 
 pub read-requires-clause-there : goal.read-requires-clause-there
 read-requires-clause-there g t c = λ r told.
-    tree_record c.args.form r c.in-Some.vcn c.args.level (subst (λ child. HasTree (short_nodes c.args.form r) child c.args.level) c.in-Some.is (c.requires.tree r told))
+    tree_record c.args.form r c.in-Some.vcn c.args.level
+    (subst (λ child. HasTree (short_nodes c.args.form r) child c.args.level) c.in-Some.is (c.requires.tree r told))
 
 pub returns-in_default-new-clause-done : goal.returns-in_default-new-clause-done
 returns-in_default-new-clause-done g t c = record {
   back = λ r told. (r, sym c.in_ok-read.ensures.records ∙ told);
   on = λ r told.
       let has = subst (λ child. HasTree (short_nodes c.args.form r) child c.args.level) c.in-Some.is (c.requires.tree r told) in
-      absurd (tree_refused c.args.form r c.in-Some.vcn c.args.level has c.read.new.into (c.in_ok-read.ensures.read r told) c.in_default-new.field-0 c.in_default-new.ensures.err);
+      absurd (tree_refused c.args.form r c.in-Some.vcn c.args.level has c.read.new.into
+      (c.in_ok-read.ensures.read r told) c.in_default-new.field-0 c.in_default-new.ensures.err);
 }
 
 pub take_least-requires : goal.take_least-requires
@@ -63,10 +66,13 @@ returns-in-Some-2-clause-done g t c =
           let has = subst (λ child. HasTree (short_nodes c.args.form r) child c.args.level) c.in-Some.is (c.requires.tree r told) in (
             a.0,
             a.1,
-            subst (λ child. TakesLeast (short_nodes c.args.form r) (short_nodes c.args.form a.0) child (Some (item_in c.in-Some-2.found))) (sym c.in-Some.is)
+            subst (λ child. TakesLeast (short_nodes c.args.form r) (short_nodes c.args.form a.0) child (Some (item_in c.in-Some-2.found)))
+                (sym c.in-Some.is)
                 (taken_below c.args.form r c.in-Some.vcn c.args.level has c.read.new.into (c.in_ok-read.ensures.read r told)
-                (node_of_view c.in-Ok.node) c.in-Ok.ensures.ok c.child-below.result 0 c.child-below.ensures a.0 refl (item_in c.in-Some-2.found)
-                (subst (λ found. TakesLeast (short_nodes c.args.form r) (short_nodes c.args.form a.0) c.child-below.result (option_map item_in found)) c.in-Some-2.is a.2)),
+                (node_of_view c.in-Ok.node) c.in-Ok.ensures.ok c.child-below.result 0 c.child-below.ensures a.0 refl
+                (item_in c.in-Some-2.found)
+                (subst (λ found. TakesLeast (short_nodes c.args.form r) (short_nodes c.args.form a.0) c.child-below.result
+                (option_map item_in found)) c.in-Some-2.is a.2)),
           );
     }
 
@@ -88,7 +94,8 @@ returns-then-entries-eq0-clause-done g t c =
             subst (λ child. TakesLeast (short_nodes c.args.form r) (short_nodes c.args.form a.0) child None) (sym c.in-Some.is)
                 (none_here c.args.form r c.in-Some.vcn c.args.level has c.read.new.into (c.in_ok-read.ensures.read r told)
                 (node_of_view c.in-Ok.node) c.in-Ok.ensures.ok c.child-below.result 0 c.child-below.ensures a.0 refl
-                (subst (λ found. TakesLeast (short_nodes c.args.form r) (short_nodes c.args.form a.0) c.child-below.result (option_map item_in found)) c.in_default-2.is a.2)
+                (subst (λ found. TakesLeast (short_nodes c.args.form r) (short_nodes c.args.form a.0) c.child-below.result
+                (option_map item_in found)) c.in_default-2.is a.2)
                 (let e = c.entries.ensures in let z = c.if-entries-eq0.true in omega (arith, e, z))),
           );
     }
@@ -105,7 +112,8 @@ write_without-requires-clause-there g t c = λ r1 told1.
     let has = subst (λ child. HasTree (short_nodes c.args.form e.0) child c.args.level) c.in-Some.is (c.requires.tree e.0 told) in
     still_first c.args.form e.0 c.in-Some.vcn c.args.level has c.read.new.into (c.in_ok-read.ensures.read e.0 told)
     (node_of_view c.in-Ok.node) c.in-Ok.ensures.ok c.child-below.result 0 c.child-below.ensures r1 refl
-    (subst (λ found. TakesLeast (short_nodes c.args.form e.0) (short_nodes c.args.form r1) c.child-below.result (option_map item_in found)) c.in_default-2.is e.2)
+    (subst (λ found. TakesLeast (short_nodes c.args.form e.0) (short_nodes c.args.form r1) c.child-below.result (option_map item_in found))
+    c.in_default-2.is e.2)
 
 pub write_without-requires-clause-opened : goal.write_without-requires-clause-opened
 write_without-requires-clause-opened g t c = λ r1 told1.
@@ -121,12 +129,14 @@ write_without-requires-clause-tree g t c = λ r1 told1.
     let has = subst (λ child. HasTree (short_nodes c.args.form e.0) child c.args.level) c.in-Some.is (c.requires.tree e.0 told) in
     off_first c.args.form e.0 c.in-Some.vcn c.args.level has c.read.new.into (c.in_ok-read.ensures.read e.0 told)
     (node_of_view c.in-Ok.node) c.in-Ok.ensures.ok c.child-below.result 0 c.child-below.ensures r1 refl
-    (subst (λ found. TakesLeast (short_nodes c.args.form e.0) (short_nodes c.args.form r1) c.child-below.result (option_map item_in found)) c.in_default-2.is e.2)
+    (subst (λ found. TakesLeast (short_nodes c.args.form e.0) (short_nodes c.args.form r1) c.child-below.result (option_map item_in found))
+    c.in_default-2.is e.2)
 
 pub returns-in_err-write_without-clause-written : goal.returns-in_err-write_without-clause-written
 returns-in_err-write_without-clause-written g t c =
     let w = g.met.B.WriteBlocks.written_reads c.args.blocks.now c.read.new.self c.in_ok-read.ensures.only_reads in
-    let n = subst (λ found. IfNone found (g.B.WriteBlocks.written c.take_least.new.blocks ≡ g.B.WriteBlocks.written c.read.new.self)) c.in_default-2.is c.in_ok-found.ensures.nothing in
+    let n = subst (λ found. IfNone found (g.B.WriteBlocks.written c.take_least.new.blocks ≡ g.B.WriteBlocks.written c.read.new.self))
+    c.in_default-2.is c.in_ok-found.ensures.nothing in
     let x = c.write_without.ensures.written in
     omega (arith, w, n, x)
 
@@ -139,7 +149,8 @@ write_without-requires-clause-apart g t c =
 pub returns-in_err-write_without-clause-edits : goal.returns-in_err-write_without-clause-edits
 returns-in_err-write_without-clause-edits g t c =
     let laws = g.met.B.WriteBlocks in
-    laws.edits_on _ _ _ (laws.edits_reads _ _ c.in_ok-read.ensures.only_reads) (laws.edits_on _ _ _ c.take_least.ensures.edits c.write_without.ensures.edits)
+    laws.edits_on _ _ _ (laws.edits_reads _ _ c.in_ok-read.ensures.only_reads)
+    (laws.edits_on _ _ _ c.take_least.ensures.edits c.write_without.ensures.edits)
 
 pub returns-clause-done : goal.returns-clause-done
 returns-clause-done g t c =
@@ -156,12 +167,15 @@ returns-clause-done g t c =
           let has = subst (λ child. HasTree (short_nodes c.args.form r) child c.args.level) c.in-Some.is (c.requires.tree r told) in (
             b.0,
             b.1,
-            subst (λ child. TakesLeast (short_nodes c.args.form r) (short_nodes c.args.form b.0) child (Some (item_in c.in_ok-found-2.found))) (sym c.in-Some.is)
+            subst (λ child. TakesLeast (short_nodes c.args.form r) (short_nodes c.args.form b.0) child
+                (Some (item_in c.in_ok-found-2.found))) (sym c.in-Some.is)
                 (first_here c.args.form r c.in-Some.vcn c.args.level has c.read.new.into (c.in_ok-read.ensures.read r told)
                 (node_of_view c.in-Ok.node) c.in-Ok.ensures.ok c.child-below.result 0 c.child-below.ensures a.0 refl
-                (subst (λ found. TakesLeast (short_nodes c.args.form r) (short_nodes c.args.form a.0) c.child-below.result (option_map item_in found)) c.in_default-2.is a.2)
+                (subst (λ found. TakesLeast (short_nodes c.args.form r) (short_nodes c.args.form a.0) c.child-below.result
+                (option_map item_in found)) c.in_default-2.is a.2)
                 c.remove_at.new.node
-                (c.remove_at.ensures.ok.short _ (tree_short c.args.form r c.in-Some.vcn c.args.level has c.read.new.into (c.in_ok-read.ensures.read r told)))
+                (c.remove_at.ensures.ok.short _
+                (tree_short c.args.form r c.in-Some.vcn c.args.level has c.read.new.into (c.in_ok-read.ensures.read r told)))
                 b.0 b.2 (item_in c.in_ok-found-2.found)
                 (λ z. let e = c.entries.ensures in let f = c.if-entries-eq0.false in omega (arith, e, f, z))
                 (λ d. ap item_in c.in_ok-found-2.ensures ∙ c.entry.ensures.item d)),
@@ -180,14 +194,16 @@ returns-clause-one g t c =
 pub returns-clause-written : goal.returns-clause-written
 returns-clause-written g t c =
     let w = g.met.B.WriteBlocks.written_reads c.args.blocks.now c.read.new.self c.in_ok-read.ensures.only_reads in
-    let n = subst (λ found. IfNone found (g.B.WriteBlocks.written c.take_least.new.blocks ≡ g.B.WriteBlocks.written c.read.new.self)) c.in_default-2.is c.in_ok-found.ensures.nothing in
+    let n = subst (λ found. IfNone found (g.B.WriteBlocks.written c.take_least.new.blocks ≡ g.B.WriteBlocks.written c.read.new.self))
+    c.in_default-2.is c.in_ok-found.ensures.nothing in
     let x = c.write_without.ensures.written in
     omega (arith, w, n, x)
 
 pub returns-clause-edits : goal.returns-clause-edits
 returns-clause-edits g t c =
     let laws = g.met.B.WriteBlocks in
-    laws.edits_on _ _ _ (laws.edits_reads _ _ c.in_ok-read.ensures.only_reads) (laws.edits_on _ _ _ c.take_least.ensures.edits c.write_without.ensures.edits)
+    laws.edits_on _ _ _ (laws.edits_reads _ _ c.in_ok-read.ensures.only_reads)
+    (laws.edits_on _ _ _ c.take_least.ensures.edits c.write_without.ensures.edits)
 
 pub returns-in-Some-2-clause-short : goal.returns-in-Some-2-clause-short
 returns-in-Some-2-clause-short g t c = λ r told.
@@ -255,7 +271,9 @@ returns-then-entries-eq0-clause-reads g t c = λ r told level has.
     let e = one_more (g.B.Blocks.reads c.args.blocks.now) (g.B.Blocks.reads c.read.new.self) c.in_ok-read.ensures.reads in
     let below = below_tree c.args.form r c.in-Some.vcn level has' c.read.new.into (c.in_ok-read.ensures.read r told)
     (node_of_view c.in-Ok.node) c.in-Ok.ensures.ok c.child-below.result 0 c.child-below.ensures in
-    let n = subst (λ found. IfNone found (WhereTold (g.B.Blocks.records c.read.new.self) (λ r. CostsLevel 1 (short_nodes c.args.form r) c.child-below.result
+    let n =
+    subst (λ found.
+    IfNone found (WhereTold (g.B.Blocks.records c.read.new.self) (λ r. CostsLevel 1 (short_nodes c.args.form r) c.child-below.result
     (g.B.Blocks.reads c.read.new.self) (g.B.Blocks.reads c.take_least.new.blocks)))) c.in_default-2.is c.in_ok-found.ensures.reads_none
     r (c.in_ok-read.ensures.records ∙ told) (level - 1) below in
     omega (arith, some, e, n)
@@ -267,7 +285,9 @@ returns-then-entries-eq0-clause-reads_none g t c = λ r told level has.
     let e = one_more (g.B.Blocks.reads c.args.blocks.now) (g.B.Blocks.reads c.read.new.self) c.in_ok-read.ensures.reads in
     let below = below_tree c.args.form r c.in-Some.vcn level has' c.read.new.into (c.in_ok-read.ensures.read r told)
     (node_of_view c.in-Ok.node) c.in-Ok.ensures.ok c.child-below.result 0 c.child-below.ensures in
-    let n = subst (λ found. IfNone found (WhereTold (g.B.Blocks.records c.read.new.self) (λ r. CostsLevel 1 (short_nodes c.args.form r) c.child-below.result
+    let n =
+    subst (λ found.
+    IfNone found (WhereTold (g.B.Blocks.records c.read.new.self) (λ r. CostsLevel 1 (short_nodes c.args.form r) c.child-below.result
     (g.B.Blocks.reads c.read.new.self) (g.B.Blocks.reads c.take_least.new.blocks)))) c.in_default-2.is c.in_ok-found.ensures.reads_none
     r (c.in_ok-read.ensures.records ∙ told) (level - 1) below in
     omega (arith, some, e, n)
@@ -279,7 +299,9 @@ returns-in_err-found-2-clause-reads g t c = λ r told level has.
     let e = one_more (g.B.Blocks.reads c.args.blocks.now) (g.B.Blocks.reads c.read.new.self) c.in_ok-read.ensures.reads in
     let below = below_tree c.args.form r c.in-Some.vcn level has' c.read.new.into (c.in_ok-read.ensures.read r told)
     (node_of_view c.in-Ok.node) c.in-Ok.ensures.ok c.child-below.result 0 c.child-below.ensures in
-    let n = subst (λ found. IfNone found (WhereTold (g.B.Blocks.records c.read.new.self) (λ r. CostsLevel 1 (short_nodes c.args.form r) c.child-below.result
+    let n =
+    subst (λ found.
+    IfNone found (WhereTold (g.B.Blocks.records c.read.new.self) (λ r. CostsLevel 1 (short_nodes c.args.form r) c.child-below.result
     (g.B.Blocks.reads c.read.new.self) (g.B.Blocks.reads c.take_least.new.blocks)))) c.in_default-2.is c.in_ok-found.ensures.reads_none
     r (c.in_ok-read.ensures.records ∙ told) (level - 1) below in
     omega (arith, some, e, n)
@@ -291,13 +313,16 @@ returns-in_err-write_without-clause-reads g t c = λ r told level has.
     let e = one_more (g.B.Blocks.reads c.args.blocks.now) (g.B.Blocks.reads c.read.new.self) c.in_ok-read.ensures.reads in
     let below = below_tree c.args.form r c.in-Some.vcn level has' c.read.new.into (c.in_ok-read.ensures.read r told)
     (node_of_view c.in-Ok.node) c.in-Ok.ensures.ok c.child-below.result 0 c.child-below.ensures in
-    let n = subst (λ found. IfNone found (WhereTold (g.B.Blocks.records c.read.new.self) (λ r. CostsLevel 1 (short_nodes c.args.form r) c.child-below.result
+    let n =
+    subst (λ found.
+    IfNone found (WhereTold (g.B.Blocks.records c.read.new.self) (λ r. CostsLevel 1 (short_nodes c.args.form r) c.child-below.result
     (g.B.Blocks.reads c.read.new.self) (g.B.Blocks.reads c.take_least.new.blocks)))) c.in_default-2.is c.in_ok-found.ensures.reads_none
     r (c.in_ok-read.ensures.records ∙ told) (level - 1) below in
     let a = c.in_ok-found.ensures.done.on r (c.in_ok-read.ensures.records ∙ told) in
     let off = off_first c.args.form r c.in-Some.vcn level has' c.read.new.into (c.in_ok-read.ensures.read r told)
     (node_of_view c.in-Ok.node) c.in-Ok.ensures.ok c.child-below.result 0 c.child-below.ensures a.0 refl
-    (subst (λ found. TakesLeast (short_nodes c.args.form r) (short_nodes c.args.form a.0) c.child-below.result (option_map item_in found)) c.in_default-2.is a.2) in
+    (subst (λ found. TakesLeast (short_nodes c.args.form r) (short_nodes c.args.form a.0) c.child-below.result (option_map item_in found))
+    c.in_default-2.is a.2) in
     let w = c.write_without.ensures.reads a.0 a.1 (level - 1) off in
     omega (arith, some, e, n, w)
 
@@ -308,12 +333,15 @@ returns-clause-reads g t c = λ r told level has.
     let e = one_more (g.B.Blocks.reads c.args.blocks.now) (g.B.Blocks.reads c.read.new.self) c.in_ok-read.ensures.reads in
     let below = below_tree c.args.form r c.in-Some.vcn level has' c.read.new.into (c.in_ok-read.ensures.read r told)
     (node_of_view c.in-Ok.node) c.in-Ok.ensures.ok c.child-below.result 0 c.child-below.ensures in
-    let n = subst (λ found. IfNone found (WhereTold (g.B.Blocks.records c.read.new.self) (λ r. CostsLevel 1 (short_nodes c.args.form r) c.child-below.result
+    let n =
+    subst (λ found.
+    IfNone found (WhereTold (g.B.Blocks.records c.read.new.self) (λ r. CostsLevel 1 (short_nodes c.args.form r) c.child-below.result
     (g.B.Blocks.reads c.read.new.self) (g.B.Blocks.reads c.take_least.new.blocks)))) c.in_default-2.is c.in_ok-found.ensures.reads_none
     r (c.in_ok-read.ensures.records ∙ told) (level - 1) below in
     let a = c.in_ok-found.ensures.done.on r (c.in_ok-read.ensures.records ∙ told) in
     let off = off_first c.args.form r c.in-Some.vcn level has' c.read.new.into (c.in_ok-read.ensures.read r told)
     (node_of_view c.in-Ok.node) c.in-Ok.ensures.ok c.child-below.result 0 c.child-below.ensures a.0 refl
-    (subst (λ found. TakesLeast (short_nodes c.args.form r) (short_nodes c.args.form a.0) c.child-below.result (option_map item_in found)) c.in_default-2.is a.2) in
+    (subst (λ found. TakesLeast (short_nodes c.args.form r) (short_nodes c.args.form a.0) c.child-below.result (option_map item_in found))
+    c.in_default-2.is a.2) in
     let w = c.write_without.ensures.reads a.0 a.1 (level - 1) off in
     omega (arith, some, e, n, w)

@@ -24,7 +24,8 @@ take_least-requires-clause-tree g c = λ r told.
     let m = node_of_view view in
     let form = c.args.form in
     let block = c.args.block.now in
-    tree_behind form r c.args.vcn c.args.level (c.requires.tree r told) block (c.requires.there r told) m c.in-Ok.ensures.ok c.args.i c.requires.entry c.child-gone.result c.child-gone.ensures
+    tree_behind form r c.args.vcn c.args.level (c.requires.tree r told) block
+    (c.requires.there r told) m c.in-Ok.ensures.ok c.args.i c.requires.entry c.child-gone.result c.child-gone.ensures
 
 some-child : (o : Option ℕ) → (o ≡ None → ⊥) → is_some o ≡ true
 some-child None h = absurd (h refl)
@@ -36,7 +37,8 @@ put_least-requires-clause-children g c =
     let view = c.in-Ok.view in
     let p = c.requires.entry in
     let n : node_of_view view ≡ p.said = some_same (sym (ap whole_of c.in-Ok.ensures.ok) ∙ p.is) in
-    let within : c.args.i + 1 ≤ length (node_of_view view).entries = (let w = p.within in let e = ap (λ (m : Node). length m.entries) n in omega arith) in
+    let within : c.args.i + 1 ≤ length (node_of_view view).entries =
+    (let w = p.within in let e = ap (λ (m : Node). length m.entries) n in omega arith) in
     sym (ap has_children c.in-Ok.ensures.bytes) ∙ sym (child_some view (c.args.i + 1) within) ∙ ap is_some (sym c.child-gone.ensures)
     ∙ some-child c.child-gone.result (λ none. none_other (sym (c.in_ok-entry.ensures.no_child none) ∙ c.in-Some.is))
 
@@ -47,8 +49,10 @@ put_least-requires-clause-there g c = λ r1 told1.
     let form = c.args.form in
     let block = c.args.block.now in
     let e = edits_after c.in_ok-entry.ensures.done r1 told1 in
-    still_some form e.0 c.args.vcn c.args.level (c.requires.tree e.0 e.1) block (c.requires.there e.0 e.1) m c.in-Ok.ensures.ok c.args.i c.requires.entry c.child-gone.result c.child-gone.ensures r1 (item_in c.in-Some.entry)
-    (subst (λ found. TakesLeast (short_nodes form e.0) (short_nodes form r1) c.child-gone.result (option_map item_in found)) c.in-Some.is e.2)
+    still_some form e.0 c.args.vcn c.args.level (c.requires.tree e.0 e.1) block (c.requires.there e.0 e.1)
+    m c.in-Ok.ensures.ok c.args.i c.requires.entry c.child-gone.result c.child-gone.ensures r1 (item_in c.in-Some.entry)
+    (subst (λ found. TakesLeast (short_nodes form e.0) (short_nodes form r1) c.child-gone.result (option_map item_in found))
+    c.in-Some.is e.2)
 
 pub put_least-requires-clause-opened : goal.put_least-requires-clause-opened
 put_least-requires-clause-opened g c = λ r1 told1.
@@ -62,8 +66,10 @@ write_without-requires-clause-there g c = λ r1 told1.
     let form = c.args.form in
     let block = c.args.block.now in
     let e = edits_after c.in_ok-entry.ensures.done r1 told1 in
-    still_none form e.0 c.args.vcn c.args.level (c.requires.tree e.0 e.1) block (c.requires.there e.0 e.1) m c.in-Ok.ensures.ok c.args.i c.requires.entry c.child-gone.result c.child-gone.ensures r1
-    (subst (λ found. TakesLeast (short_nodes form e.0) (short_nodes form r1) c.child-gone.result (option_map item_in found)) c.in-None.is e.2)
+    still_none form e.0 c.args.vcn c.args.level (c.requires.tree e.0 e.1) block
+    (c.requires.there e.0 e.1) m c.in-Ok.ensures.ok c.args.i c.requires.entry c.child-gone.result c.child-gone.ensures r1
+    (subst (λ found. TakesLeast (short_nodes form e.0) (short_nodes form r1) c.child-gone.result (option_map item_in found))
+    c.in-None.is e.2)
 
 pub write_without-requires-clause-opened : goal.write_without-requires-clause-opened
 write_without-requires-clause-opened g c = λ r1 told1.
@@ -83,8 +89,10 @@ write_without-requires-clause-tree g c = λ r1 told1.
     let form = c.args.form in
     let block = c.args.block.now in
     let e = edits_after c.in_ok-entry.ensures.done r1 told1 in
-    off_none form e.0 c.args.vcn c.args.level (c.requires.tree e.0 e.1) block (c.requires.there e.0 e.1) m c.in-Ok.ensures.ok c.args.i c.requires.entry c.child-gone.result c.child-gone.ensures r1
-    (subst (λ found. TakesLeast (short_nodes form e.0) (short_nodes form r1) c.child-gone.result (option_map item_in found)) c.in-None.is e.2)
+    off_none form e.0 c.args.vcn c.args.level (c.requires.tree e.0 e.1) block
+    (c.requires.there e.0 e.1) m c.in-Ok.ensures.ok c.args.i c.requires.entry c.child-gone.result c.child-gone.ensures r1
+    (subst (λ found. TakesLeast (short_nodes form e.0) (short_nodes form r1) c.child-gone.result (option_map item_in found))
+    c.in-None.is e.2)
 
 pub returns-in-Some-clause-done : goal.returns-in-Some-clause-done
 returns-in-Some-clause-done g c =
@@ -104,8 +112,10 @@ returns-in-Some-clause-done g c =
           let b = placed.on a.0 a.1 in (
             b.0,
             b.1,
-            here_replaced form r c.args.vcn c.args.level (c.requires.tree r told) block (c.requires.there r told) m c.in-Ok.ensures.ok c.args.i c.requires.entry c.child-gone.result c.child-gone.ensures a.0 (item_in c.in-Some.entry)
-                (subst (λ found. TakesLeast (short_nodes form r) (short_nodes form a.0) c.child-gone.result (option_map item_in found)) c.in-Some.is a.2)
+            here_replaced form r c.args.vcn c.args.level (c.requires.tree r told) block (c.requires.there r told)
+                m c.in-Ok.ensures.ok c.args.i c.requires.entry c.child-gone.result c.child-gone.ensures a.0 (item_in c.in-Some.entry)
+                (subst (λ found. TakesLeast (short_nodes form r) (short_nodes form a.0) c.child-gone.result (option_map item_in found))
+                c.in-Some.is a.2)
                 b.0 out (subst (λ bytes. ReplacesIn form block c.args.vcn c.args.i (item_in bytes) a.0 b.0 out) c.as_slice.ensures b.2),
           );
     })
@@ -129,21 +139,25 @@ returns-in_ok-write_without-in-None-clause-done g c =
           let b = drops.on a.0 a.1 in (
             b.0,
             b.1,
-            here_joined form r c.args.vcn c.args.level (c.requires.tree r told) block (c.requires.there r told) m c.in-Ok.ensures.ok c.args.i c.requires.entry c.child-gone.result c.child-gone.ensures a.0
-                (subst (λ found. TakesLeast (short_nodes form r) (short_nodes form a.0) c.child-gone.result (option_map item_in found)) c.in-None.is a.2)
+            here_joined form r c.args.vcn c.args.level (c.requires.tree r told) block
+                (c.requires.there r told) m c.in-Ok.ensures.ok c.args.i c.requires.entry c.child-gone.result c.child-gone.ensures a.0
+                (subst (λ found. TakesLeast (short_nodes form r) (short_nodes form a.0) c.child-gone.result (option_map item_in found))
+                c.in-None.is a.2)
                 c.join_at.new.node c.join_at.ensures.ok.short b.0 b.2,
           );
     }
 
 pub returns-in_err-entry-clause-leaf : goal.returns-in_err-entry-clause-leaf
-returns-in_err-entry-clause-leaf g c = λ leaf. (c.take_least.ensures.taken, (c.take_least.ensures.full, err_if NoneUp _ c.from_residual.result c.from_residual.ensures.1))
+returns-in_err-entry-clause-leaf g c = λ leaf.
+    (c.take_least.ensures.taken, (c.take_least.ensures.full, err_if NoneUp _ c.from_residual.result c.from_residual.ensures.1))
 
 pub returns-in-Some-clause-leaf : goal.returns-in-Some-clause-leaf
 returns-in-Some-clause-leaf g c = λ leaf.
     let m = node_of_view c.in-Ok.view in
     let p = c.requires.entry in
     let n : m ≡ p.said = some_same (sym (ap whole_of c.in-Ok.ensures.ok) ∙ p.is) in
-    let gone : c.child-gone.result ≡ None = c.child-gone.ensures ∙ ap (λ (x : Node). child_from x.entries x.last (c.args.i + 1)) n ∙ leaf p.said p.is in
+    let gone : c.child-gone.result ≡ None = c.child-gone.ensures
+    ∙ ap (λ (x : Node). child_from x.entries x.last (c.args.i + 1)) n ∙ leaf p.said p.is in
     absurd (none_other (sym (c.in_ok-entry.ensures.no_child gone) ∙ c.in-Some.is))
 
 pub returns-in_err-write_without-in-None-clause-leaf : goal.returns-in_err-write_without-in-None-clause-leaf
@@ -164,7 +178,8 @@ returns-in_ok-write_without-in-None-clause-leaf g c = λ leaf. (
 pub returns-in_err-entry-clause-reads : goal.returns-in_err-entry-clause-reads
 returns-in_err-entry-clause-reads g c = λ r told most has.
     let view = c.in-Ok.view in
-    let behind = tree_behind c.args.form r c.args.vcn most has c.args.block.now (c.requires.there r told) (node_of_view view) c.in-Ok.ensures.ok
+    let behind = tree_behind c.args.form r c.args.vcn most has c.args.block.now (c.requires.there r told)
+    (node_of_view view) c.in-Ok.ensures.ok
     c.args.i c.requires.entry c.child-gone.result c.child-gone.ensures in
     let k = c.take_least.ensures.reads r told most behind in
     omega (arith, k)
@@ -172,7 +187,8 @@ returns-in_err-entry-clause-reads g c = λ r told most has.
 pub returns-in-Some-clause-reads : goal.returns-in-Some-clause-reads
 returns-in-Some-clause-reads g c = λ r told most has.
     let view = c.in-Ok.view in
-    let behind = tree_behind c.args.form r c.args.vcn most has c.args.block.now (c.requires.there r told) (node_of_view view) c.in-Ok.ensures.ok
+    let behind = tree_behind c.args.form r c.args.vcn most has c.args.block.now (c.requires.there r told)
+    (node_of_view view) c.in-Ok.ensures.ok
     c.args.i c.requires.entry c.child-gone.result c.child-gone.ensures in
     let k = c.take_least.ensures.reads r told most behind in
     omega (arith, k, c.put_least.ensures.reads)
@@ -180,27 +196,37 @@ returns-in-Some-clause-reads g c = λ r told most has.
 pub returns-in_err-write_without-in-None-clause-reads : goal.returns-in_err-write_without-in-None-clause-reads
 returns-in_err-write_without-in-None-clause-reads g c = λ r told most has.
     let view = c.in-Ok.view in
-    let behind = tree_behind c.args.form r c.args.vcn most has c.args.block.now (c.requires.there r told) (node_of_view view) c.in-Ok.ensures.ok
+    let behind = tree_behind c.args.form r c.args.vcn most has c.args.block.now (c.requires.there r told)
+    (node_of_view view) c.in-Ok.ensures.ok
     c.args.i c.requires.entry c.child-gone.result c.child-gone.ensures in
-    let n = subst (λ found. IfNone found (WhereTold (g.B.Blocks.records c.args.blocks.now) (λ r. CostsLevel 1 (short_nodes c.args.form r) c.child-gone.result
-    (g.B.Blocks.reads c.args.blocks.now) (g.B.Blocks.reads c.take_least.new.blocks)))) c.in-None.is c.in_ok-entry.ensures.reads_none r told most behind in
+    let n =
+    subst (λ found.
+    IfNone found (WhereTold (g.B.Blocks.records c.args.blocks.now) (λ r. CostsLevel 1 (short_nodes c.args.form r) c.child-gone.result
+    (g.B.Blocks.reads c.args.blocks.now) (g.B.Blocks.reads c.take_least.new.blocks))))
+    c.in-None.is c.in_ok-entry.ensures.reads_none r told most behind in
     let a = c.in_ok-entry.ensures.done.on r told in
     let off = off_none c.args.form r c.args.vcn most has c.args.block.now (c.requires.there r told) (node_of_view view) c.in-Ok.ensures.ok
     c.args.i c.requires.entry c.child-gone.result c.child-gone.ensures a.0
-    (subst (λ found. TakesLeast (short_nodes c.args.form r) (short_nodes c.args.form a.0) c.child-gone.result (option_map item_in found)) c.in-None.is a.2) in
+    (subst (λ found. TakesLeast (short_nodes c.args.form r) (short_nodes c.args.form a.0) c.child-gone.result (option_map item_in found))
+    c.in-None.is a.2) in
     let w = c.write_without.ensures.reads a.0 a.1 most off in
     omega (arith, n, w)
 
 pub returns-in_ok-write_without-in-None-clause-reads : goal.returns-in_ok-write_without-in-None-clause-reads
 returns-in_ok-write_without-in-None-clause-reads g c = λ r told most has.
     let view = c.in-Ok.view in
-    let behind = tree_behind c.args.form r c.args.vcn most has c.args.block.now (c.requires.there r told) (node_of_view view) c.in-Ok.ensures.ok
+    let behind = tree_behind c.args.form r c.args.vcn most has c.args.block.now (c.requires.there r told)
+    (node_of_view view) c.in-Ok.ensures.ok
     c.args.i c.requires.entry c.child-gone.result c.child-gone.ensures in
-    let n = subst (λ found. IfNone found (WhereTold (g.B.Blocks.records c.args.blocks.now) (λ r. CostsLevel 1 (short_nodes c.args.form r) c.child-gone.result
-    (g.B.Blocks.reads c.args.blocks.now) (g.B.Blocks.reads c.take_least.new.blocks)))) c.in-None.is c.in_ok-entry.ensures.reads_none r told most behind in
+    let n =
+    subst (λ found.
+    IfNone found (WhereTold (g.B.Blocks.records c.args.blocks.now) (λ r. CostsLevel 1 (short_nodes c.args.form r) c.child-gone.result
+    (g.B.Blocks.reads c.args.blocks.now) (g.B.Blocks.reads c.take_least.new.blocks))))
+    c.in-None.is c.in_ok-entry.ensures.reads_none r told most behind in
     let a = c.in_ok-entry.ensures.done.on r told in
     let off = off_none c.args.form r c.args.vcn most has c.args.block.now (c.requires.there r told) (node_of_view view) c.in-Ok.ensures.ok
     c.args.i c.requires.entry c.child-gone.result c.child-gone.ensures a.0
-    (subst (λ found. TakesLeast (short_nodes c.args.form r) (short_nodes c.args.form a.0) c.child-gone.result (option_map item_in found)) c.in-None.is a.2) in
+    (subst (λ found. TakesLeast (short_nodes c.args.form r) (short_nodes c.args.form a.0) c.child-gone.result (option_map item_in found))
+    c.in-None.is a.2) in
     let w = c.write_without.ensures.reads a.0 a.1 most off in
     omega (arith, n, w)

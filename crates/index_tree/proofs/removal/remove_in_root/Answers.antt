@@ -20,7 +20,9 @@ OnOk-map (Ok x) f h = f h
 OnOk-map (Err e) f h = tt
 
 pub take_least-requires-clause-tree : goal.take_least-requires-clause-tree
-take_least-requires-clause-tree g c = λ r told. root_tree c.args.form c.args.root.now.items r c.args.i (c.requires.behind r told) (node_of_view c.in-Ok.view) (ap (scan_node c.args.form) (sym c.as_slice.ensures.value) ∙ c.in-Ok.ensures.ok) c.child-gone.result c.child-gone.ensures
+take_least-requires-clause-tree g c = λ r told.
+    root_tree c.args.form c.args.root.now.items r c.args.i (c.requires.behind r told) (node_of_view c.in-Ok.view)
+    (ap (scan_node c.args.form) (sym c.as_slice.ensures.value) ∙ c.in-Ok.ensures.ok) c.child-gone.result c.child-gone.ensures
 
 some-child : (o : Option ℕ) → (o ≡ None → ⊥) → is_some o ≡ true
 some-child None h = absurd (h refl)
@@ -33,15 +35,18 @@ replace_in_root-requires-clause-children g c =
     let p = c.requires.entry in
     let l = c.as_slice.ensures.value in
     let n : node_of_view view ≡ p.said = some_same (sym (ap whole_of c.in-Ok.ensures.ok) ∙ ap (node_in c.args.form) l ∙ p.is) in
-    let within : c.args.i + 1 ≤ length (node_of_view view).entries = (let w = p.within in let e = ap (λ (m : Node). length m.entries) n in omega arith) in
+    let within : c.args.i + 1 ≤ length (node_of_view view).entries =
+    (let w = p.within in let e = ap (λ (m : Node). length m.entries) n in omega arith) in
     sym (ap has_children (c.in-Ok.ensures.bytes ∙ l)) ∙ sym (child_some view (c.args.i + 1) within) ∙ ap is_some (sym c.child-gone.ensures)
     ∙ some-child c.child-gone.result (λ none. none_other (sym (c.in_ok-entry.ensures.no_child none) ∙ c.in-Some.is))
 
 pub give_back-requires-clause-tree : goal.give_back-requires-clause-tree
 give_back-requires-clause-tree g c = λ r1 told1.
     let e = edits_after c.in_ok-entry.ensures.done r1 told1 in
-    root_after c.args.form c.args.root.now.items e.0 c.args.i (c.requires.behind e.0 e.1) (node_of_view c.in-Ok.view) (ap (scan_node c.args.form) (sym c.as_slice.ensures.value) ∙ c.in-Ok.ensures.ok) c.child-gone.result c.child-gone.ensures r1
-    (subst (λ found. TakesLeast (short_nodes c.args.form e.0) (short_nodes c.args.form r1) c.child-gone.result (option_map item_in found)) c.in-None.is e.2)
+    root_after c.args.form c.args.root.now.items e.0 c.args.i (c.requires.behind e.0 e.1) (node_of_view c.in-Ok.view)
+    (ap (scan_node c.args.form) (sym c.as_slice.ensures.value) ∙ c.in-Ok.ensures.ok) c.child-gone.result c.child-gone.ensures r1
+    (subst (λ found. TakesLeast (short_nodes c.args.form e.0) (short_nodes c.args.form r1) c.child-gone.result (option_map item_in found))
+    c.in-None.is e.2)
 
 pub returns-in_ok-replace_in_root-in-Some-clause-done : goal.returns-in_ok-replace_in_root-in-Some-clause-done
 returns-in_ok-replace_in_root-in-Some-clause-done g c =
@@ -57,12 +62,18 @@ returns-in_ok-replace_in_root-in-Some-clause-done g c =
           let b = fits.on a.0 a.1 in (
             b.0,
             b.1,
-            replaced_root c.args.form c.args.root.now.items r c.args.i (c.requires.behind r told) (node_of_view c.in-Ok.view) (ap (scan_node c.args.form) (sym c.as_slice.ensures.value) ∙ c.in-Ok.ensures.ok) c.child-gone.result c.child-gone.ensures a.0 (item_in c.in-Some.entry)
-                (subst (λ found. TakesLeast (short_nodes c.args.form r) (short_nodes c.args.form a.0) c.child-gone.result (option_map item_in found)) c.in-Some.is a.2)
+            replaced_root c.args.form c.args.root.now.items r c.args.i (c.requires.behind r told) (node_of_view c.in-Ok.view)
+                (ap (scan_node c.args.form) (sym c.as_slice.ensures.value) ∙ c.in-Ok.ensures.ok)
+                c.child-gone.result c.child-gone.ensures a.0 (item_in c.in-Some.entry)
+                (subst (λ found. TakesLeast (short_nodes c.args.form r) (short_nodes c.args.form a.0) c.child-gone.result
+                (option_map item_in found)) c.in-Some.is a.2)
                 c.replace_in_root.new.root.items
-                (subst (λ bytes. EditsShort c.args.form c.args.root.now.items c.replace_in_root.new.root.items (λ said. with_item_at said c.args.i (item_in bytes)))
-                c.as_slice-in-Some.ensures (c.in_ok-replace_in_root-in-Some.ensures.done (subst (λ bytes. length bytes ≤ most_len (has_child bytes 0)) (sym c.as_slice-in-Some.ensures)
-                (subst (λ found. IfSome found (λ entry. length entry ≤ most_len (has_child entry 0))) c.in-Some.is (c.in_ok-entry.ensures.short r told)))))
+                (subst (λ bytes. EditsShort c.args.form c.args.root.now.items c.replace_in_root.new.root.items
+                (λ said. with_item_at said c.args.i (item_in bytes)))
+                c.as_slice-in-Some.ensures (c.in_ok-replace_in_root-in-Some.ensures.done
+                (subst (λ bytes. length bytes ≤ most_len (has_child bytes 0)) (sym c.as_slice-in-Some.ensures)
+                (subst (λ found. IfSome found (λ entry. length entry ≤ most_len (has_child entry 0))) c.in-Some.is
+                (c.in_ok-entry.ensures.short r told)))))
                 b.0 c.fit_root.new.root.items b.2,
           );
     })
@@ -82,8 +93,11 @@ returns-in-None-clause-done g c =
           let b = given.on a.0 a.1 in (
             b.0,
             b.1,
-            joined_root c.args.form c.args.root.now.items r c.args.i (c.requires.behind r told) (node_of_view c.in-Ok.view) (ap (scan_node c.args.form) (sym c.as_slice.ensures.value) ∙ c.in-Ok.ensures.ok) c.child-gone.result c.child-gone.ensures a.0
-                (subst (λ found. TakesLeast (short_nodes c.args.form r) (short_nodes c.args.form a.0) c.child-gone.result (option_map item_in found)) c.in-None.is a.2)
+            joined_root c.args.form c.args.root.now.items r c.args.i (c.requires.behind r told) (node_of_view c.in-Ok.view)
+                (ap (scan_node c.args.form) (sym c.as_slice.ensures.value) ∙ c.in-Ok.ensures.ok)
+                c.child-gone.result c.child-gone.ensures a.0
+                (subst (λ found. TakesLeast (short_nodes c.args.form r) (short_nodes c.args.form a.0) c.child-gone.result
+                (option_map item_in found)) c.in-None.is a.2)
                 c.join_in_root.new.root.items c.join_in_root.ensures.short b.0 b.2,
           );
     })
@@ -108,7 +122,8 @@ returns-in_ok-replace_in_root-in-Some-clause-leaf g c = λ leaf.
     let p = c.requires.entry in
     let scan = ap (scan_node c.args.form) (sym c.as_slice.ensures.value) ∙ c.in-Ok.ensures.ok in
     let n : m ≡ p.said = some_same (sym (ap whole_of scan) ∙ p.is) in
-    let gone : c.child-gone.result ≡ None = c.child-gone.ensures ∙ ap (λ (x : Node). child_from x.entries x.last (c.args.i + 1)) n ∙ leaf p.said p.is in
+    let gone : c.child-gone.result ≡ None = c.child-gone.ensures
+    ∙ ap (λ (x : Node). child_from x.entries x.last (c.args.i + 1)) n ∙ leaf p.said p.is in
     absurd (none_other (sym (c.in_ok-entry.ensures.no_child gone) ∙ c.in-Some.is))
 
 pub returns-in-None-clause-leaf : goal.returns-in-None-clause-leaf
@@ -144,10 +159,14 @@ returns-in-None-clause-reads g c = λ r told most behind.
     let scan = ap (scan_node c.args.form) (sym c.as_slice.ensures.value) ∙ c.in-Ok.ensures.ok in
     let n = node_of_view c.in-Ok.view in
     let held = root_tree c.args.form c.args.root.now.items r c.args.i behind n scan c.child-gone.result c.child-gone.ensures in
-    let none = subst (λ found. IfNone found (WhereTold (g.B.Blocks.records c.args.blocks.now) (λ r. CostsLevel 1 (short_nodes c.args.form r) c.child-gone.result
-    (g.B.Blocks.reads c.args.blocks.now) (g.B.Blocks.reads c.take_least.new.blocks)))) c.in-None.is c.in_ok-entry.ensures.reads_none r told most held in
+    let none =
+    subst (λ found.
+    IfNone found (WhereTold (g.B.Blocks.records c.args.blocks.now) (λ r. CostsLevel 1 (short_nodes c.args.form r) c.child-gone.result
+    (g.B.Blocks.reads c.args.blocks.now) (g.B.Blocks.reads c.take_least.new.blocks))))
+    c.in-None.is c.in_ok-entry.ensures.reads_none r told most held in
     let a = c.in_ok-entry.ensures.done.on r told in
     let after = root_after c.args.form c.args.root.now.items r c.args.i behind n scan c.child-gone.result c.child-gone.ensures a.0
-    (subst (λ found. TakesLeast (short_nodes c.args.form r) (short_nodes c.args.form a.0) c.child-gone.result (option_map item_in found)) c.in-None.is a.2) in
+    (subst (λ found. TakesLeast (short_nodes c.args.form r) (short_nodes c.args.form a.0) c.child-gone.result (option_map item_in found))
+    c.in-None.is a.2) in
     let w = c.give_back.ensures.reads a.0 a.1 most after in
     omega (arith, none, w)

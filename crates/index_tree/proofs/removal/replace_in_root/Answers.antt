@@ -35,7 +35,11 @@ returns-clause-small c =
 pub insert_in_root-requires-clause-place : goal.insert_in_root-requires-clause-place
 insert_in_root-requires-clause-place c =
     let p = c.requires.entry in
-    record { said = without_entry p.said c.args.i; is = c.take_in_root.ensures.node p.said p.is; within = less_one p.said.entries c.args.i p.within }
+    record {
+      said = without_entry p.said c.args.i;
+      is = c.take_in_root.ensures.node p.said p.is;
+      within = less_one p.said.entries c.args.i p.within;
+    }
 
 pub insert_in_root-requires-clause-entry : goal.insert_in_root-requires-clause-entry
 insert_in_root-requires-clause-entry c =
@@ -43,7 +47,8 @@ insert_in_root-requires-clause-entry c =
     let p = c.requires.entry in
     let l = c.as_slice.ensures.value in
     let n : node_of_view view ≡ p.said = some_same (sym (ap whole_of c.in-Ok.ensures.ok) ∙ ap (node_in c.args.form) l ∙ p.is) in
-    let within : c.args.i ≤ length (node_of_view view).entries = (let w = p.within in let e = ap (λ (m : Node). length m.entries) n in omega arith) in
+    let within : c.args.i ≤ length (node_of_view view).entries =
+    (let w = p.within in let e = ap (λ (m : Node). length m.entries) n in omega arith) in
     let above : true ≡ has_children c.args.root.now.items =
     ap is_some (sym c.in-Some.is ∙ c.child.ensures) ∙ child_some view c.args.i within ∙ ap has_children (c.in-Ok.ensures.bytes ∙ l) in
     subst (λ b. IsShortEntry c.args.form b c.as_slice-2.result.now) (above ∙ sym c.take_in_root.ensures.children)
@@ -52,10 +57,14 @@ insert_in_root-requires-clause-entry c =
 pub returns-clause-done : goal.returns-clause-done
 returns-clause-done c = λ fits said is.
     let l = c.as_slice.ensures.value in
-    let n : node_of_view c.in-Ok.view ≡ said = some_same (sym (ap whole_of c.in-Ok.ensures.ok) ∙ ap (node_in c.args.form) l ∙ short_in c.args.form c.args.root.now.items said is) in
-    let below : Some c.in-Some.below ≡ child_of_node said c.args.i = sym c.in-Some.is ∙ c.child.ensures ∙ ap (λ m. child_of_node m c.args.i) n in
+    let n : node_of_view c.in-Ok.view ≡ said =
+    some_same (sym (ap whole_of c.in-Ok.ensures.ok) ∙ ap (node_in c.args.form) l
+    ∙ short_in c.args.form c.args.root.now.items said is) in
+    let below : Some c.in-Some.below ≡ child_of_node said c.args.i =
+    sym c.in-Some.is ∙ c.child.ensures ∙ ap (λ m. child_of_node m c.args.i) n in
     let up : entry_in c.as_slice-2.result.now ≡ record { item = item_in c.args.entry.now; child = child_of_node said c.args.i } =
-    ap entry_in c.as_slice-2.ensures ∙ (splits _ c.in-Some-2.is c.in_ok-up.ensures.leads).says ∙ put_item (item_in c.args.entry.now) below in
+    ap entry_in c.as_slice-2.ensures ∙ (splits _ c.in-Some-2.is c.in_ok-up.ensures.leads).says
+    ∙ put_item (item_in c.args.entry.now) below in
     subst (λ e. short_node c.args.form c.insert_in_root.new.root.items ≡ Some (with_entry_at (without_entry said c.args.i) c.args.i e)) up
     (c.in_ok-insert_in_root.ensures.short (without_entry said c.args.i) (c.take_in_root.ensures.short said is))
 
@@ -72,7 +81,8 @@ unreachable-requires-in_default-child c =
     let p = c.requires.entry in
     let l = c.as_slice.ensures.value in
     let n : node_of_view view ≡ p.said = some_same (sym (ap whole_of c.in-Ok.ensures.ok) ∙ ap (node_in c.args.form) l ∙ p.is) in
-    let within : c.args.i ≤ length (node_of_view view).entries = (let w = p.within in let e = ap (λ (m : Node). length m.entries) n in omega arith) in
+    let within : c.args.i ≤ length (node_of_view view).entries =
+    (let w = p.within in let e = ap (λ (m : Node). length m.entries) n in omega arith) in
     let e : false ≡ true = sym (ap is_some c.in_default-child.is) ∙ ap is_some c.child.ensures ∙ child_some view c.args.i within
     ∙ ap has_children (c.in-Ok.ensures.bytes ∙ l) ∙ c.requires.children in
     cc

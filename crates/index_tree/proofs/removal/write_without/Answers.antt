@@ -28,7 +28,8 @@ returns-clause-done g c =
           let b = done.on a.0 a.1 in (
             b.0,
             b.1,
-            dropped_in c.sealed_nodes.ensures.place c.sealed_nodes.ensures.short c.args.form c.args.vcn c.args.block.now r a.0 b.0 c.args.gone a.2
+            dropped_in c.sealed_nodes.ensures.place c.sealed_nodes.ensures.short c.args.form c.args.vcn c.args.block.now
+                r a.0 b.0 c.args.gone a.2
                 (c.requires.opened r told).len b.2,
           );
     })

@@ -36,7 +36,8 @@ returns-then-level-eq0-clause-done g t c =
     record {
       back = λ r told. (r, told);
       on = λ r told.
-          let can = subst (λ child. HasSorted order valid (short_nodes c.args.form r) child c.args.level) c.in-Some.is (c.requires.tree r told) in
+          let can = subst (λ child. HasSorted order valid (short_nodes c.args.form r) child c.args.level) c.in-Some.is
+          (c.requires.tree r told) in
           let some = level_more order valid (short_nodes c.args.form r) c.in-Some.vcn c.args.level can in
           absurd (omega (arith, some, c.if-level-eq0.true));
     }
@@ -56,15 +57,18 @@ returns-in_default-seek_block-clause-done g t c =
     record {
       back = λ r told. (r, sym c.in_ok-read.ensures.records ∙ told);
       on = λ r told.
-          let can = subst (λ child. HasSorted order valid (short_nodes c.args.form r) child c.args.level) c.in-Some.is (c.requires.tree r told) in
-          absurd (never_none order valid (is_order order (g.met.C.Collation.is_order c.args.order.now)) c.args.form r c.in-Some.vcn c.args.level can c.read.new.into
+          let can = subst (λ child. HasSorted order valid (short_nodes c.args.form r) child c.args.level) c.in-Some.is
+          (c.requires.tree r told) in
+          absurd (never_none order valid (is_order order (g.met.C.Collation.is_order c.args.order.now))
+          c.args.form r c.in-Some.vcn c.args.level can c.read.new.into
           (c.in_ok-read.ensures.read r told) c.in_default-seek_block.ensures.none);
     }
 
 pub replace_here-requires-clause-has : goal.replace_here-requires-clause-has
 replace_here-requires-clause-has g t c =
     let spot = c.in-Some-seek_block.spot in
-    hit_entry (g.C.Collation.order c.args.order.now) c.args.form c.read.new.into c.args.key.now spot.i spot.hit spot.child c.in-Some-seek_block.ensures.some c.if-spot.true
+    hit_entry (g.C.Collation.order c.args.order.now)
+    c.args.form c.read.new.into c.args.key.now spot.i spot.hit spot.child c.in-Some-seek_block.ensures.some c.if-spot.true
 
 pub replace_here-requires-clause-there : goal.replace_here-requires-clause-there
 replace_here-requires-clause-there g t c = λ r told'.
@@ -92,11 +96,14 @@ returns-then-spot-clause-done g t c =
       back = λ r1 told1. let e = edits_after done r1 told1 in (e.0, sym c.in_ok-read.ensures.records ∙ e.1);
       on = λ r told.
           let a = done.on r (c.in_ok-read.ensures.records ∙ told) in
-          let can = subst (λ child. HasSorted order valid (short_nodes c.args.form r) child c.args.level) c.in-Some.is (c.requires.tree r told) in (
+          let can = subst (λ child. HasSorted order valid (short_nodes c.args.form r) child c.args.level) c.in-Some.is
+          (c.requires.tree r told) in (
             a.0,
             a.1,
-            subst (λ child. ReplacesBelow order valid (short_nodes c.args.form r) (short_nodes c.args.form a.0) child item) (sym c.in-Some.is)
-                (replaced_hit order valid laws c.args.form r c.in-Some.vcn c.args.level can c.read.new.into (c.in_ok-read.ensures.read r told)
+            subst (λ child. ReplacesBelow order valid (short_nodes c.args.form r) (short_nodes c.args.form a.0) child item)
+                (sym c.in-Some.is)
+                (replaced_hit order valid laws c.args.form r c.in-Some.vcn c.args.level can c.read.new.into
+                (c.in_ok-read.ensures.read r told)
                 spot.i spot.hit spot.child c.args.key.now c.in-Some-seek_block.ensures.some item c.requires.is_key a.0 c.if-spot.true a.2),
           );
     })
@@ -120,7 +127,8 @@ replace_below-requires g t c κs within =
             (
               (λ r told'.
                   let told = sym c.in_ok-read.ensures.records ∙ told' in
-                  let can = subst (λ child. HasSorted order valid (short_nodes c.args.form r) child c.args.level) c.in-Some.is (c.requires.tree r told) in
+                  let can = subst (λ child. HasSorted order valid (short_nodes c.args.form r) child c.args.level) c.in-Some.is
+                  (c.requires.tree r told) in
                   below order valid laws c.args.form r c.in-Some.vcn c.args.level can block (c.in_ok-read.ensures.read r told)
                   spot.i spot.hit spot.child c.args.key.now c.in-Some-seek_block.ensures.some),
               (c.requires.entry, (c.requires.is_key, c.requires.key)),
@@ -142,11 +150,14 @@ returns-clause-done g t c =
       back = λ r1 told1. let e = edits_after done r1 told1 in (e.0, sym c.in_ok-read.ensures.records ∙ e.1);
       on = λ r told.
           let a = done.on r (c.in_ok-read.ensures.records ∙ told) in
-          let can = subst (λ child. HasSorted order valid (short_nodes c.args.form r) child c.args.level) c.in-Some.is (c.requires.tree r told) in (
+          let can = subst (λ child. HasSorted order valid (short_nodes c.args.form r) child c.args.level) c.in-Some.is
+          (c.requires.tree r told) in (
             a.0,
             a.1,
-            subst (λ child. ReplacesBelow order valid (short_nodes c.args.form r) (short_nodes c.args.form a.0) child item) (sym c.in-Some.is)
-                (replaced_through order valid laws c.args.form r c.in-Some.vcn c.args.level can c.read.new.into (c.in_ok-read.ensures.read r told)
+            subst (λ child. ReplacesBelow order valid (short_nodes c.args.form r) (short_nodes c.args.form a.0) child item)
+                (sym c.in-Some.is)
+                (replaced_through order valid laws c.args.form r c.in-Some.vcn c.args.level can c.read.new.into
+                (c.in_ok-read.ensures.read r told)
                 spot.i spot.hit spot.child c.args.key.now c.in-Some-seek_block.ensures.some item c.requires.is_key a.0 c.if-spot.false a.2),
           );
     })
@@ -162,7 +173,8 @@ returns-clause-reads g t c = λ r told.
     let mid : ℕ = g.B.Blocks.reads c.read.new.self in
     let after : ℕ = g.B.Blocks.reads c.replace_below.new.blocks in
     let e = one_more (g.B.Blocks.reads c.args.blocks.now) mid c.in_ok-read.ensures.reads in
-    subst (λ child. EditCostsBelow 1 order valid (short_nodes c.args.form r) child (g.B.Blocks.reads c.args.blocks.now) after) (sym c.in-Some.is)
+    subst (λ child. EditCostsBelow 1 order valid (short_nodes c.args.form r) child (g.B.Blocks.reads c.args.blocks.now) after)
+    (sym c.in-Some.is)
     (λ depth tree sorted.
     let k = costs order valid laws c.args.form r c.in-Some.vcn c.args.level can c.read.new.into (c.in_ok-read.ensures.read r told)
     spot.i spot.hit spot.child c.args.key.now c.in-Some-seek_block.ensures.some 1 mid after (after + 1)

@@ -6,7 +6,8 @@ pub write-requires-clause-opened : goal.write-requires-clause-opened
 write-requires-clause-opened g c = λ r told. c.swap_item.ensures.opened c.args.vcn (c.requires.opened r told)
 
 pub write-requires-clause-apart : goal.write-requires-clause-apart
-write-requires-clause-apart g c = apart_of c.args.form c.swap_item.new.node c.swap_item.ensures.node (omega (arith, c.swap_item.ensures.len, c.told-block))
+write-requires-clause-apart g c =
+    apart_of c.args.form c.swap_item.new.node c.swap_item.ensures.node (omega (arith, c.swap_item.ensures.len, c.told-block))
 
 pub returns-clause-done : goal.returns-clause-done
 returns-clause-done g c =

@@ -19,7 +19,8 @@ returns-then-entry c = record {
       ap item_len (c.entry.ensures.item d) ∙ ap (λ (m : Node). item_len (slice_index_or m.entries c.args.i d).item) n ∙ alike d in
       let a = item_len-one (form_of_view view) (has_children (bytes_of view)) c.entry.result.now c.entry.ensures.own in
       let b = item_len-one c.args.form (has_children c.args.node.now) c.args.entry.now c.requires.one in
-      let k : child_len (has_children (bytes_of view)) ≡ child_len (has_children c.args.node.now) = ap (λ (xs : List ℕ). child_len (has_children xs)) c.in-Ok.ensures.bytes in
+      let k : child_len (has_children (bytes_of view)) ≡ child_len (has_children c.args.node.now) =
+      ap (λ (xs : List ℕ). child_len (has_children xs)) c.in-Ok.ensures.bytes in
       absurd (c.if-entry.true (omega (arith, same, a, b, k)));
   node = is_some_of c.requires.has.is;
   len = refl;
@@ -35,7 +36,8 @@ replace_at-requires-clause-alike c = λ said is d.
     ap (λ (m : Node). item_len (slice_index_or m.entries c.args.i d).item) (sym n) ∙ ap item_len (sym (c.entry.ensures.item d)) in
     let a = item_len-one (form_of_view view) (has_children (bytes_of view)) c.entry.result.now c.entry.ensures.own in
     let b = item_len-one c.args.form (has_children c.args.node.now) c.args.entry.now c.requires.one in
-    let k : child_len (has_children (bytes_of view)) ≡ child_len (has_children c.args.node.now) = ap (λ (xs : List ℕ). child_len (has_children xs)) c.in-Ok.ensures.bytes in
+    let k : child_len (has_children (bytes_of view)) ≡ child_len (has_children c.args.node.now) =
+    ap (λ (xs : List ℕ). child_len (has_children xs)) c.in-Ok.ensures.bytes in
     omega (arith, same, a, b, k, c.if-entry.false)
 
 pub returns : goal.returns

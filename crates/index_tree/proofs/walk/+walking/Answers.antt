@@ -7,7 +7,8 @@ use Rattle.index_node.specs.View.{form_of_view, node_of_view, number_of, view_of
 use Rattle.index_tree.specs.Search.{nodes_of}
 use Rattle.index_tree.specs.Walk.{CostsNode, CostsTree, HasSpread, HasTree, WalksNode, WalksTree}
 use Rattle.index_tree.proofs.Rising.{not_refused, one_more, read_node, some_record}
-use Rattle.index_tree.proofs.WalkLaws.{CostsFront, WalksFront, costs_all, costs_more, costs_start, costs_tree, front_all, front_more, front_start, has_spread, tree_below, tree_level, tree_node, walks_tree}
+use Rattle.index_tree.proofs.WalkLaws.{CostsFront, WalksFront, costs_all, costs_more, costs_start, costs_tree, front_all, front_more}
+use Rattle.index_tree.proofs.WalkLaws.{front_start, has_spread, tree_below, tree_level, tree_node, walks_tree}
 use Rattle.std.proofs.lemmas.Result.{on_ok_weaker}
 use Rattle.index_node.proofs.SeekLaws.{less_in, more_in}
 use Rattle.index_tree.proofs.PlaceLaws.{child_in, item_in_node}
@@ -24,9 +25,11 @@ walk_node-places-init g t c =
           (front_start (nodes_of (form_of_view node) r) n c.args.out.now.items);
       own = λ h. h;
       reads = λ r e. subst (λ k. CostsFront 1 (nodes_of (form_of_view node) r) n k (g.B.Blocks.reads c.args.blocks.now)
-          (g.B.Blocks.reads c.args.blocks.now)) first (costs_start 1 (nodes_of (form_of_view node) r) n (g.B.Blocks.reads c.args.blocks.now));
+          (g.B.Blocks.reads c.args.blocks.now)) first
+          (costs_start 1 (nodes_of (form_of_view node) r) n (g.B.Blocks.reads c.args.blocks.now));
       fetched = λ r e. subst (λ k. CostsFront 8 (nodes_of (form_of_view node) r) n k (g.B.Blocks.fetched c.args.blocks.now)
-          (g.B.Blocks.fetched c.args.blocks.now)) first (costs_start 8 (nodes_of (form_of_view node) r) n (g.B.Blocks.fetched c.args.blocks.now));
+          (g.B.Blocks.fetched c.args.blocks.now)) first
+          (costs_start 8 (nodes_of (form_of_view node) r) n (g.B.Blocks.fetched c.args.blocks.now));
       ready = c.requires.ready;
       records = refl;
       only_reads = g.met.B.Blocks.only_reads_itself c.args.blocks.now;

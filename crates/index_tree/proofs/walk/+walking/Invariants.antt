@@ -19,9 +19,11 @@ invariant-walk_node-places g l = record {
   walked : WhereTold (g.B.Blocks.records l.fn.blocks) (λ r. WalksFront (nodes_of (form_of_view l.node) r)
       (node_of_view l.node) (number_of l.place) l.fn.out.items l.out.items);
   own : Each (IsOwnEntry (form_of_view l.node)) l.fn.out.items → Each (IsOwnEntry (form_of_view l.node)) l.out.items;
-  reads : WhereTold (g.B.Blocks.records l.fn.blocks) (λ r. CostsFront 1 (nodes_of (form_of_view l.node) r) (node_of_view l.node) (number_of l.place)
+  reads : WhereTold (g.B.Blocks.records l.fn.blocks)
+      (λ r. CostsFront 1 (nodes_of (form_of_view l.node) r) (node_of_view l.node) (number_of l.place)
       (g.B.Blocks.reads l.fn.blocks) (g.B.Blocks.reads l.blocks));
-  fetched : WhereTold (g.B.Blocks.records l.fn.blocks) (λ r. CostsFront 8 (nodes_of (form_of_view l.node) r) (node_of_view l.node) (number_of l.place)
+  fetched : WhereTold (g.B.Blocks.records l.fn.blocks)
+      (λ r. CostsFront 8 (nodes_of (form_of_view l.node) r) (node_of_view l.node) (number_of l.place)
       (g.B.Blocks.fetched l.fn.blocks) (g.B.Blocks.fetched l.blocks));
   ready : g.B.Blocks.ready l.blocks;
   records : g.B.Blocks.records l.blocks ≡ g.B.Blocks.records l.fn.blocks;

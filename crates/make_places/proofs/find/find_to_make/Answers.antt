@@ -33,6 +33,7 @@ returns-clause-can g c = λ told.
         free = c.in_ok-place.ensures.free;
         room = λ n least. record-room (view g.D.Disk old) (mounted_of g.D.Disk old) (c.requires.volume told) n least makeable.record_;
       };
-      asked = asked-none g.D.Disk c.args.directory c.args.path.now (number_within c.in_ok-place.place.standing) c.in_ok-place.ensures.answered
+      asked = asked-none g.D.Disk c.args.directory c.args.path.now
+          (number_within c.in_ok-place.place.standing) c.in_ok-place.ensures.answered
           c.in_ok-ask_for_file.ensures.asked told;
     }

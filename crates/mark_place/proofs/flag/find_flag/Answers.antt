@@ -27,6 +27,7 @@ returns-in-Ok-clause-some g c told lt apart shape version =
     let byte = at + value_offset (opened_of stored) at + 0x0A in
     let is : IsFlagByte (opened_of stored) byte = record { i = version.i; inside = version.inside; version = version.here; is = refl } in
     not-none c.flag_in.result _ c.flag_in.ensures.none (λ none.
-    none (subst (λ (t : Mounted). IsApart (mounted_layout t)) (sym c.in-Ok.ensures.reads.mounted) apart) (length (attributes (opened_of stored)))
+    none (subst (λ (t : Mounted). IsApart (mounted_layout t)) (sym c.in-Ok.ensures.reads.mounted) apart)
+    (length (attributes (opened_of stored)))
     (subst (λ b. HasShape b (length (attributes (opened_of stored)))) (sym read) well.shape) byte
     (subst (λ b. IsFlagByte b byte) (sym read) is))

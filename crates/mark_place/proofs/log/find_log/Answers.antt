@@ -31,7 +31,8 @@ other : DATA ≡ FILE_NAME → ⊥
 other e = cc
 
 -- the file that was loaded is there
-is-there : (o : Option Record) (header : RecordHeader) → IsSomeAnd o (λ r. IsTrue (is_base r) × HasHeader header r) → IsSomeAnd o (λ r. IsTrue (is_base r))
+is-there : (o : Option Record) (header : RecordHeader) → IsSomeAnd o (λ r. IsTrue (is_base r) × HasHeader header r)
+    → IsSomeAnd o (λ r. IsTrue (is_base r))
 is-there None header h = h
 is-there (Some r) header h = h.0
 
@@ -50,7 +51,8 @@ returns-in_default-written_part-clause-log g c told readable owners meets =
     let are = subst (λ o. IfSome o (λ (f : BaseFile). AreParts volume f.parts)) c.in-Some.is (given.parts told readable) in
     let base = subst (λ o. IfSome o (λ (f : BaseFile). HasBaseRecord volume LOG_FILE f.header)) c.in-Some.is (given.header told) in
     let there = is-there (record_on volume LOG_FILE) file.header base in
-    let zero = log-bytes volume there ∙ ap clusters_written (sym (log-held volume file.parts are number)) ∙ c.in_default-written_part.ensures.none in
+    let zero = log-bytes volume there ∙ ap clusters_written (sym (log-held volume file.parts are number))
+    ∙ c.in_default-written_part.ensures.none in
     none-written volume c.new-in_default-written_part.result.items c.new-in_default-written_part.ensures.items zero
 
 pub attr-stream-requires : goal.attr-stream-requires
@@ -76,20 +78,24 @@ returns-clause-log g c told readable owners meets =
     let held = log-held volume parts are number in
     let (tells, written) = c.in-Some-written_part.ensures.some in
     let stored : Stored = record { part = first.index; len = first.len } in
-    let is_stored : IsStored parts DATA [] stored = record { first = tells.part; at = tells.at; is_first = tells.is_first; len = tells.len } in
+    let is_stored : IsStored parts DATA [] stored =
+    record { first = tells.part; at = tells.at; is_first = tells.is_first; len = tells.len } in
     let a = attribute_of c.attr-stream.result in
     let like = stored-like parts DATA [] stored is_stored a c.attr-stream.ensures.part in
     let stream = stored-stream parts DATA [] stored is_stored volume readable are (subst (IsFile volume) (sym number) there) other in
     let bytes : log_bytes volume ≡ first.written = log-bytes volume there ∙ ap clusters_written (sym held) ∙ sym written in
     let count : c.div_ceil-count.result ≡ log_sectors volume = omega (arith, c.div_ceil-count.ensures, bytes) in
     let its = c.in_ok-spans.ensures in
-    let per : c.cluster_sectors.result ≡ volume.layout.cluster_sectors = c.cluster_sectors.ensures.sectors ∙ ap (λ (t : Mounted). (mounted_layout t).cluster_sectors) given.reads.mounted in
+    let per : c.cluster_sectors.result ≡ volume.layout.cluster_sectors =
+    c.cluster_sectors.ensures.sectors ∙ ap (λ (t : Mounted). (mounted_layout t).cluster_sectors) given.reads.mounted in
     let below : LiesBelow volume.layout.cluster_sectors c.sectors.result (spot_at (log_parts volume)) =
     log-below volume c.sectors.result owners c.args.mft.now.stands.table.some
     (omega (arith, clusters-on_disk g.D.Disk c.args.mft.now, c.sectors.ensures.size, given.reads.stage.goes_on.size)) in
     let all = like ∙ held in
-    let spans = its.are volume.layout (file_number parts) (sym per) (subst (AreAttribute (cluster_bytes volume.layout) (file_number parts)) (sym like) stream)
-    (subst (λ xs. LiesBelow c.cluster_sectors.result c.sectors.result (spot_at xs)) (sym all) (subst (λ n. LiesBelow n c.sectors.result (spot_at (log_parts volume))) (sym per) below)) in (
+    let spans = its.are volume.layout (file_number parts) (sym per)
+    (subst (AreAttribute (cluster_bytes volume.layout) (file_number parts)) (sym like) stream)
+    (subst (λ xs. LiesBelow c.cluster_sectors.result c.sectors.result (spot_at xs)) (sym all)
+    (subst (λ n. LiesBelow n c.sectors.result (spot_at (log_parts volume))) (sym per) below)) in (
       subst (λ xs. AreSpansOf volume.layout (spot_at xs) (log_sectors volume) c.in_ok-spans.spans.items) all
           (subst (λ n. AreSpansOf volume.layout (spot_at (parts_held_like parts a)) n c.in_ok-spans.spans.items) count spans),
       omega (arith, its.most, count),

@@ -1,4 +1,5 @@
-use Rattle.std.proofs.Common.{Vec, Global, ◌≡◌, ◌+◌, ◌-◌, ◌*◌, ◌<◌, ◌≤◌, ◌^◌, ℕ, [], ◌∷◌, ◌++◌, Option, Some, None, inl, inr, refl, sym, ap, subst, ◌∙◌, arith}
+use Rattle.std.proofs.Common.{Vec, Global, ◌≡◌, ◌+◌, ◌-◌, ◌*◌, ◌<◌, ◌≤◌, ◌^◌, ℕ, [], ◌∷◌, ◌++◌, Option, Some, None, inl, inr, refl, sym, ap}
+use Rattle.std.proofs.Common.{subst, ◌∙◌, arith}
 use Rattle.std.specs.Prelude.{All, IfNone, IfSome, min}
 use Rattle.std.proofs.Math.Nat.{add-mul, mul-le-mul_right}
 use Rattle.std.proofs.lemmas.Grind.{div_ceil_times}
@@ -28,11 +29,13 @@ returns-in_default-clause-are c layout f e s below =
     let from = c.runs.vcn * c.args.per in
     let first : min from c.args.count ≡ from = omega (arith, c.runs-test.true) in
     let out = subst (λ o. LiesAs spot c.runs.vcn o) c.in_default.is (c.in_ok-run.ensures.lies (cluster_bytes layout) f s) in
-    let none = end-none (cluster_bytes layout) f (parts_held_like c.args.file.now (attribute_of c.args.stream.now)) layout c.runs.vcn c.args.count
+    let none = end-none (cluster_bytes layout) f
+    (parts_held_like c.args.file.now (attribute_of c.args.stream.now)) layout c.runs.vcn c.args.count
     (omega (arith, e, c.requires.some)) s out in
     none-more layout spot (c.runs.vcn * layout.cluster_sectors) c.args.count c.runs.spans.items
     (omega (arith, ap (λ n. c.runs.vcn * n) e, c.runs-test.true)) none
-    (subst (λ n. AreSpansOf layout spot n c.runs.spans.items) (first ∙ ap (λ n. c.runs.vcn * n) (sym e)) (c.runs.invariant.are layout f e s below))
+    (subst (λ n. AreSpansOf layout spot n c.runs.spans.items) (first ∙ ap (λ n. c.runs.vcn * n) (sym e))
+    (c.runs.invariant.are layout f e s below))
 
 pub returns-clause-are : goal.returns-clause-are
 returns-clause-are c layout f e s below =
@@ -55,7 +58,8 @@ runs-preserved c =
     let fit : n * per ≤ c.div_ceil.result * per = mul-le-mul_right per (omega (arith, c.min-clusters.ensures)) in
     let spread = add-mul vcn n per in
     let up : count - vcn * per ≤ c.div_ceil.result * per = subst (λ x. count - vcn * per ≤ x * per) (sym c.div_ceil.ensures) ceil.0 in
-    let few : c.div_ceil.result * per < count - vcn * per + per = subst (λ x. x * per < count - vcn * per + per) (sym c.div_ceil.ensures) ceil.1 in
+    let few : c.div_ceil.result * per < count - vcn * per + per =
+    subst (λ x. x * per < count - vcn * per + per) (sym c.div_ceil.ensures) ceil.1 in
     let some : 0 < c.div_ceil.result = elim (cases_lt 0 c.div_ceil.result) [
       | inl lt ↦ lt
       | inr none ↦
@@ -70,9 +74,11 @@ runs-preserved c =
     let long : 0 < len = omega (arith, c.min-len.ensures, whole, c.requires.some, c.runs-test.true) in
     let first : min (vcn * per) count ≡ vcn * per = omega (arith, c.runs-test.true) in
     let upto : (vcn + n) * per ≤ count + per = omega (arith, spread, fit, few, c.runs-test.true) in
-    let lies : (layout : TableLayout) (f : ℕ) → AreAttribute (cluster_bytes layout) f (parts_held_like c.args.file.now (attribute_of c.args.stream.now))
+    let lies : (layout : TableLayout) (f : ℕ)
+    → AreAttribute (cluster_bytes layout) f (parts_held_like c.args.file.now (attribute_of c.args.stream.now))
     → (k : ℕ) → k < n → spot (vcn + k) ≡ spot_on run.lcn k = λ layout f s k lt.
-    subst (λ o. LiesAs spot vcn o) c.in-Some.is (c.in_ok-run.ensures.lies (cluster_bytes layout) f s) k (omega (arith, lt, c.min-clusters.ensures)) in
+    subst (λ o. LiesAs spot vcn o) c.in-Some.is (c.in_ok-run.ensures.lies (cluster_bytes layout) f s) k
+    (omega (arith, lt, c.min-clusters.ensures)) in
     let old : (layout : TableLayout) (f : ℕ) → layout.cluster_sectors ≡ per
     → AreAttribute (cluster_bytes layout) f (parts_held_like c.args.file.now (attribute_of c.args.stream.now))
     → LiesBelow per c.args.sectors spot → AreSpansOf layout spot (vcn * per) c.runs.spans.items = λ layout f e s below.
@@ -80,7 +86,8 @@ runs-preserved c =
     elim c.match-span_of_run.branch [
       | in-Some-span_of_run+in_ok-push w ↦
           let span = w.in-Some-span_of_run.span in
-          let put : c.match-span_of_run.spans.items ≡ c.runs.spans.items ++ span ∷ [] = ap (λ (v : Vec Span Global). v.items) w.spans-is ∙ w.in_ok-push.ensures.items in
+          let put : c.match-span_of_run.spans.items ≡ c.runs.spans.items ++ span ∷ [] =
+          ap (λ (v : Vec Span Global). v.items) w.spans-is ∙ w.in_ok-push.ensures.items in
           let its = subst (λ o. IfSome o (λ (x : Span). (cluster : ℕ) × (run.lcn ≡ Some cluster) × (x.first ≡ cluster * per) × (x.len ≡ len)
           × (x.first + x.len ≤ c.args.sectors))) w.in-Some-span_of_run.is c.span_of_run.ensures.some in
           let (cluster, is, first_is, len_is, inside) = its in
@@ -88,19 +95,22 @@ runs-preserved c =
           record {
             upto = upto;
             lie = subst (All (λ x. x.first + x.len ≤ c.args.sectors)) (sym put)
-                (All-append (λ (x : Span). x.first + x.len ≤ c.args.sectors) c.runs.spans.items (span ∷ []) inv.lie (All-one (λ (x : Span). x.first + x.len ≤ c.args.sectors) span inside));
+                (All-append (λ (x : Span). x.first + x.len ≤ c.args.sectors) c.runs.spans.items (span ∷ []) inv.lie
+                (All-one (λ (x : Span). x.first + x.len ≤ c.args.sectors) span inside));
             most = omega (arith, ap span_sectors put, sum, inv.most, len_is, next, first);
             are = λ layout f e s below.
                 let starts : vcn * per ≡ vcn * layout.cluster_sectors = ap (λ x. vcn * x) (sym e) in
                 let fits : len ≤ n * layout.cluster_sectors = omega (arith, c.min-len.ensures, ap (λ x. n * x) e) in
                 subst (λ xs. AreSpansOf layout spot (min ((vcn + n) * per) count) xs) (sym put)
                 (subst (λ m. AreSpansOf layout spot m (c.runs.spans.items ++ span ∷ [])) (sym next)
-                (span-more layout spot vcn n len run.lcn (omega (arith, e, c.requires.some)) (lies layout f s) fits (vcn * per) cluster c.runs.spans.items span
+                (span-more layout spot vcn n len run.lcn (omega (arith, e, c.requires.some)) (lies layout f s) fits
+                (vcn * per) cluster c.runs.spans.items span
                 starts is (first_is ∙ ap (λ x. cluster * x) (sym e)) len_is (old layout f e s below)));
           }
       | in_default-span_of_run w ↦
           let kept : c.match-span_of_run.spans.items ≡ c.runs.spans.items = ap (λ (v : Vec Span Global). v.items) w.spans-is in
-          let past = subst (λ o. IfNone o ((cluster : ℕ) → run.lcn ≡ Some cluster → c.args.sectors < cluster * per + len)) w.in_default-span_of_run.is c.span_of_run.ensures.none in
+          let past = subst (λ o. IfNone o ((cluster : ℕ) → run.lcn ≡ Some cluster → c.args.sectors < cluster * per + len))
+          w.in_default-span_of_run.is c.span_of_run.ensures.none in
           record {
             upto = upto;
             lie = subst (All (λ x. x.first + x.len ≤ c.args.sectors)) (sym kept) inv.lie;
@@ -111,11 +121,13 @@ runs-preserved c =
                 let some_here : 0 < layout.cluster_sectors = omega (arith, e, c.requires.some) in
                 let hole : run.lcn ≡ None = no_cluster run.lcn (λ cluster is.
                 run-below layout spot vcn n len run.lcn some_here (lies layout f s) fits c.args.sectors cluster long
-                (subst (λ x. LiesBelow x c.args.sectors spot) (sym e) below) is (omega (arith, past cluster is, ap (λ x. cluster * x) e))) in
+                (subst (λ x. LiesBelow x c.args.sectors spot) (sym e) below) is
+                (omega (arith, past cluster is, ap (λ x. cluster * x) e))) in
                 subst (λ xs. AreSpansOf layout spot (min ((vcn + n) * per) count) xs) (sym kept)
                 (subst (λ m. AreSpansOf layout spot m c.runs.spans.items) (sym next)
                 (none-more layout spot (vcn * per) (vcn * per + len) c.runs.spans.items (omega arith)
-                (hole-none layout spot vcn n len run.lcn some_here (lies layout f s) fits (vcn * per) starts hole) (old layout f e s below)));
+                (hole-none layout spot vcn n len run.lcn some_here (lies layout f s) fits (vcn * per) starts hole)
+                (old layout f e s below)));
           }
     ]
   where

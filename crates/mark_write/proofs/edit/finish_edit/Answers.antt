@@ -16,7 +16,8 @@ returns-clause-finishes g c =
     let staged = c.in_ok-prepare.ensures.staged in
     let last = c.in_ok-commit.ensures in
     let kept : (n : ℕ) → ¬ (Contains (places g.D.Disk c.args.stage.now) n)
-    → sector_in (g.D.Disk.now (disk_of g.D.Disk c.commit.new.self)) n ≡ sector_in (g.D.Disk.now (disk_of g.D.Disk c.prepare.new.stage)) n = λ n not.
+    → sector_in (g.D.Disk.now (disk_of g.D.Disk c.commit.new.self)) n
+    ≡ sector_in (g.D.Disk.now (disk_of g.D.Disk c.prepare.new.stage)) n = λ n not.
     last.others n (λ h. not (subst (λ xs. Contains xs n) staged h)) in
     record {
       written = λ told n out. ap (λ (all : Option (List ℕ)). cleared_sector flag (sector_in all) n) last.now ∙ first.cleared told n out;

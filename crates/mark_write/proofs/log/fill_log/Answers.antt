@@ -10,7 +10,8 @@ use Rattle.mark_write.proofs.log.fill_log.Goals as goal
 
 pub fill_span-requires-clause-plain : goal.fill_span-requires-clause-plain
 fill_span-requires-clause-plain g c told n within h =
-    c.requires.plain (sym c.loop-span.invariant.goes_on.told_image ∙ told) n (subst (λ xs. Contains xs n) c.loop-span.invariant.staged h) c.loop-span.span-index (omega arith) within
+    c.requires.plain (sym c.loop-span.invariant.goes_on.told_image ∙ told) n
+    (subst (λ xs. Contains xs n) c.loop-span.invariant.staged h) c.loop-span.span-index (omega arith) within
 
 pub loop-span-preserved : goal.loop-span-preserved
 loop-span-preserved g c =
@@ -25,7 +26,9 @@ loop-span-preserved g c =
             | inl here ↦ f.filled u' n here
             | inr not ↦ elim (cases_lt i c.loop-span.span-index) [
               | inl low ↦ f.others n not ∙ v.filled u i n low w
-              | inr high ↦ absurd (not (subst (λ k. IsWithin (get_or c.args.spans.now k no_span) n) (let e : i ≡ c.loop-span.span-index = omega arith in e) w))
+              | inr high ↦ absurd
+                  (not (subst (λ k. IsWithin (get_or c.args.spans.now k no_span) n)
+                  (let e : i ≡ c.loop-span.span-index = omega arith in e) w))
             ]
           ];
       others = search rules;

@@ -14,6 +14,7 @@ returns-clause-image g c =
     c.requires.plain told (subst (λ xs. Contains xs c.args.sector) r.places h) in
     let others : (¬ (Contains (places g.D.Disk c.read.new.self) c.args.sector)
     → PutsSector (image g.D.Disk c.read.new.self) (image g.D.Disk c.write_now.new.self) c.args.sector empty_sector)
-    → IsTold (image g.D.Disk c.args.stage.now) → (other : ℕ) → other ≢ c.args.sector → sector_in (image g.D.Disk c.write_now.new.self) other ≡ sector_in (image g.D.Disk c.args.stage.now) other =
+    → IsTold (image g.D.Disk c.args.stage.now) → (other : ℕ) → other ≢ c.args.sector
+    → sector_in (image g.D.Disk c.write_now.new.self) other ≡ sector_in (image g.D.Disk c.args.stage.now) other =
     λ f told other ne. (f (plain told)).others other ne ∙ ap (λ now. sector_in now other) r.image in
     on_ok_weaker _ others c.write_now.ensures.image

@@ -7,9 +7,12 @@ use Rattle.mark_write.proofs.log.fill_span.Given as goal
 abbrev pub invariant-loop-k : goal.invariant-loop-k
 invariant-loop-k g l = record {
   goes_on : GoesOn g.D.Disk l.initial.stage l.stage;
-  filled : IsTold (image g.D.Disk l.initial.stage) → (n : ℕ) → l.span.first ≤ n → n < l.span.first + l.k → sector_in (g.D.Disk.now (disk_of g.D.Disk l.stage)) n ≡ empty_sector;
-  others : (n : ℕ) → ¬ (IsWithin l.span n) → sector_in (g.D.Disk.now (disk_of g.D.Disk l.stage)) n ≡ sector_in (g.D.Disk.now (disk_of g.D.Disk l.initial.stage)) n;
-  image : IsTold (image g.D.Disk l.initial.stage) → (n : ℕ) → ¬ (IsWithin l.span n) → sector_in (image g.D.Disk l.stage) n ≡ sector_in (image g.D.Disk l.initial.stage) n;
+  filled : IsTold (image g.D.Disk l.initial.stage) → (n : ℕ) → l.span.first ≤ n → n < l.span.first + l.k
+      → sector_in (g.D.Disk.now (disk_of g.D.Disk l.stage)) n ≡ empty_sector;
+  others : (n : ℕ) → ¬ (IsWithin l.span n)
+      → sector_in (g.D.Disk.now (disk_of g.D.Disk l.stage)) n ≡ sector_in (g.D.Disk.now (disk_of g.D.Disk l.initial.stage)) n;
+  image : IsTold (image g.D.Disk l.initial.stage) → (n : ℕ) → ¬ (IsWithin l.span n)
+      → sector_in (image g.D.Disk l.stage) n ≡ sector_in (image g.D.Disk l.initial.stage) n;
   settled : g.D.Disk.settled (disk_of g.D.Disk l.stage) ≡ g.D.Disk.settled (disk_of g.D.Disk l.initial.stage);
   most : g.D.Disk.written (disk_of g.D.Disk l.stage) ≤ g.D.Disk.written (disk_of g.D.Disk l.initial.stage) + l.k;
   staged : places g.D.Disk l.stage ≡ places g.D.Disk l.initial.stage;

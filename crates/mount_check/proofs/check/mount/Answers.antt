@@ -31,7 +31,8 @@ finish_mount-requires-clause-limits g c =
     let first = c.check_records_and_limits.ensures.only_reads in
     let second = c.check_dirs.ensures.only_reads in
     rw (second.1.now, first.1.now)
-    (subst (λ (m : Mounted). WhereTold (g.D.Disk.now c.args.disk.now) (λ image. DecidesFirst Limits (volume_in image m) c.in_ok-found.found.long))
+    (subst (λ (m : Mounted). WhereTold (g.D.Disk.now c.args.disk.now)
+    (λ image. DecidesFirst Limits (volume_in image m) c.in_ok-found.found.long))
     (sym c.in_ok-mounted.ensures.same) c.in_ok-found.ensures.long)
 
 pub returns-clause-accepted : goal.returns-clause-accepted

@@ -14,7 +14,8 @@ use Rattle.mount_check.proofs.finish.finish_mount.Goals as goal
 pub returns-in_err-decided-clause-err : goal.returns-in_err-decided-clause-err
 returns-in_err-decided-clause-err g c =
     let told = g.D.Disk.now c.args.disk.now in
-    let refused = rw (c.resume-mft.ensures.stage, c.resume-mft.ensures.mounted, c.over-stage.ensures.image) at c.in_err-decided.ensures.err in
+    let refused = rw (c.resume-mft.ensures.stage, c.resume-mft.ensures.mounted, c.over-stage.ensures.image)
+    at c.in_err-decided.ensures.err in
     let p = err_from_is_err_and c.from_residual.result c.from_residual.ensures.1 in
     rw (p.1, p.2) (refusal-finished told c.args.mounted c.args.long _ c.requires.tables c.requires.limits refused)
 
@@ -42,7 +43,8 @@ returns-clause-accepted g c =
 
 pub returns-clause-mirror : goal.returns-clause-mirror
 returns-clause-mirror g c =
-    subst IsMirrorInside (sym (c.into_parts-stage.ensures.mounted ∙ c.decide_rest-decided.ensures.reads.mounted)) c.in_ok-decided.ensures.inside
+    subst IsMirrorInside (sym (c.into_parts-stage.ensures.mounted ∙ c.decide_rest-decided.ensures.reads.mounted))
+    c.in_ok-decided.ensures.inside
 
 pub returns-clause-only_reads : goal.returns-clause-only_reads
 returns-clause-only_reads g c =

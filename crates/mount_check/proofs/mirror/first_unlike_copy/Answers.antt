@@ -25,7 +25,8 @@ loop-n-preserved g c =
     let decided = subst (λ w. IsTrue w.told → HasComeTo w 11 → IsTrue c.in_ok-has.has ↔ (IsTrue (is_in_use (w.block n)) → HasCopy w n)) kept
     c.in_ok-has.ensures.has in
     record {
-      reads = MftReads-then g.D.Disk c.args.mft.now c.loop-n.mft c.has_copy.new.mft (4 * n) 4 (4 * (n + 1)) before.reads c.in_ok-has.ensures.reads
+      reads = MftReads-then g.D.Disk c.args.mft.now c.loop-n.mft c.has_copy.new.mft (4 * n) 4
+          (4 * (n + 1)) before.reads c.in_ok-has.ensures.reads
           (omega arith);
       faults = c.in_ok-has.ensures.faults ∙ before.faults;
       before = λ told come. mirror-next v n c.in_ok-has.has (before.before told come) c.if-not-has.false (decided told come);

@@ -12,7 +12,8 @@ pub returns-then-not-opens-clause-has : goal.returns-then-not-opens-clause-has
 returns-then-not-opens-clause-has g c = λ told come.
     let first = c.in_ok-used.ensures.reads in
     let sealed = rw (first.stage.only_reads.image, first.mounted) at c.in_ok-opens.ensures.sealed in
-    has-closed (view g.D.Disk c.args.mft.now) c.args.n come c.requires c.in_ok-used.used (c.in_ok-used.ensures.used told) c.if-not-used.false
+    has-closed (view g.D.Disk c.args.mft.now) c.args.n come c.requires c.in_ok-used.used
+    (c.in_ok-used.ensures.used told) c.if-not-used.false
     (λ whole three. false≢true (sym c.if-not-opens.true ∙ sealed told whole three))
 
 pub returns-clause-has : goal.returns-clause-has

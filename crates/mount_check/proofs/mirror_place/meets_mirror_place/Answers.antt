@@ -43,7 +43,8 @@ returns-clause-inside g c = λ t.
     let kept = c.mounted.ensures ∙ c.in_ok-found.ensures.reads.mounted in
     let place = ap (λ (m : Mounted). m.geometry.mirror) kept in
     let many = ap (λ (m : Mounted). m.geometry.clusters) kept in
-    let wide = c.cluster_sectors-sectors.ensures.sectors ∙ ap (λ (m : Mounted). m.geometry.cluster / 512) c.in_ok-found.ensures.reads.mounted in
+    let wide = c.cluster_sectors-sectors.ensures.sectors
+    ∙ ap (λ (m : Mounted). m.geometry.cluster / 512) c.in_ok-found.ensures.reads.mounted in
     IsMirrorInside-of (mounted_of g.D.Disk c.args.mft.now) _ _ _ place wide many (c.lie_inside.ensures.0 c.if-not-lie_inside.false)
 
 pub returns-clause-meets : goal.returns-clause-meets

@@ -32,7 +32,8 @@ returns-clause-made g c =
     let shown = c.read_standard-was.result in
     let value = c.read_standard-was.ensures in
     on_ok_weaker c.touch_directory.result (λ sets told.
-    found-made c.args.directory g.D.Disk c.args.mft.now c.make_file.new.mft c.args.found.now c.in_ok-make_file.field-0 c.number-number.result
+    found-made c.args.directory g.D.Disk c.args.mft.now c.make_file.new.mft c.args.found.now
+    c.in_ok-make_file.field-0 c.number-number.result
     c.as_slice.result.now c.args.moment shown.security (c.requires.volume told) (c.requires.can told) c.number-number.ensures
     c.as_slice.ensures (c.in_ok-make_file.ensures.made told) (view g.D.Disk c.touch_directory.new.mft) shown.times shown.flags
     value.security value.times value.flags (sets (subst IsTrue (sym c.make_file.ensures.device.goes_on.told_image) told)))

@@ -27,7 +27,8 @@ returns-clause-put g c =
     on_ok_weaker c.stage_sector.result (λ w told spot at apart own lies is.
     let its = subst (λ (v : VolumeView). (s : ℕ → Spot) (k : ℕ) → IsApart v.layout → IsOwnStream v.layout s
     → stream_place v.layout s k ≡ Some (cluster * c.cluster_sectors.result + skip / 512) → WritesStream v new s (512 * k) bytes) same w in
-    bit-put old new spot at cluster skip c.args.bit (bit_for c.args.value) c.read_sector.new.into bytes apart.some lies is c.requires.bit len
+    bit-put old new spot at cluster skip c.args.bit
+    (bit_for c.args.value) c.read_sector.new.into bytes apart.some lies is c.requires.bit len
     (c.in_ok-read_sector.ensures.read told) c.put_flag.ensures.here c.put_flag.ensures.others c.put_flag.ensures.bytes
     (its spot (at / 512) apart own (place-patched old.layout spot at cluster skip apart.some lies is
     ∙ ap (λ n. Some (cluster * n + skip / 512)) (sym per)))) c.stage_sector.ensures.written

@@ -34,4 +34,5 @@ returns-clause-can g c told =
     let sound = (c.requires.volume told).sound in
     let given = c.in_ok-file.ensures in
     let are = given.parts told (readable-sound volume sound) (rows-file volume sound) in
-    absurd (rows-there volume (rows-clause volume sound) (sym (ap first_part (rows-held volume c.in_ok-file.file are given.number)) ∙ c.in-None.ensures))
+    absurd (rows-there volume (rows-clause volume sound)
+    (sym (ap first_part (rows-held volume c.in_ok-file.file are given.number)) ∙ c.in-None.ensures))

@@ -20,7 +20,8 @@ returns-in-At-clause-put g c =
     on_ok_weaker c.put_bit.result (λ put told h.
     row-put old (view g.D.Disk c.put_bit.new.mft) file c.args.first h c.args.n told c.requires.written (bit_for c.args.value)
     (put told (spot_at (record_bits old)) at h.apart (rows-own old file c.args.first h)
-    (sym (spot-found old file c.args.first h (attribute_of c.attr-attribute.result) c.attr-attribute.ensures.part at c.cluster_bytes-size.result
+    (sym (spot-found old file c.args.first h (attribute_of c.attr-attribute.result)
+    c.attr-attribute.ensures.part at c.cluster_bytes-size.result
     c.in_ok-cluster.field-0 size c.in_ok-cluster.ensures) ∙ c.in-At.is)
     (ap (λ n. at % n) (sym size)))) c.put_bit.ensures.put
 
@@ -31,7 +32,8 @@ returns-in-At-clause-places g c h sector there =
     let size = c.cluster_bytes-size.ensures in
     let at = c.args.n / 8 in
     elim ((c.put_bit.ensures.places (spot_at (record_bits old)) at
-    (sym (spot-found old file c.args.first h (attribute_of c.attr-attribute.result) c.attr-attribute.ensures.part at c.cluster_bytes-size.result
+    (sym (spot-found old file c.args.first h (attribute_of c.attr-attribute.result)
+    c.attr-attribute.ensures.part at c.cluster_bytes-size.result
     c.in_ok-cluster.field-0 size c.in_ok-cluster.ensures) ∙ c.in-At.is)
     (ap (λ n. at % n) (sym size))).only sector there) [
       | inl was ↦ inl was
@@ -47,7 +49,8 @@ returns-in-Hole g c =
       put = λ told h.
           let there = rows-placed old file c.args.first h at (inside old old file c.args.first h c.args.n told c.requires.written) in
           let is : c.in_ok-cluster.field-0 ≡ At there.0 =
-          spot-found old file c.args.first h (attribute_of c.attr-attribute.result) c.attr-attribute.ensures.part at c.cluster_bytes-size.result
+          spot-found old file c.args.first h (attribute_of c.attr-attribute.result)
+          c.attr-attribute.ensures.part at c.cluster_bytes-size.result
           c.in_ok-cluster.field-0 c.cluster_bytes-size.ensures c.in_ok-cluster.ensures ∙ there.1 in
           absurd (elim c.in-Hole.is [
             | inl hole ↦ let e : Hole ≡ At there.0 = sym hole ∙ is in nowhere-hole there.0 e

@@ -57,8 +57,10 @@ returns-clause-put g c = on_ok_weaker c.put_held_bit.result (λ put told place.
     let same = view-kept g.D.Disk c.args.mft.now c.load.new.mft _ given.reads in
     let new = view g.D.Disk c.put_held_bit.new.mft in
     let holds = holds-rows volume (mounted_of g.D.Disk c.args.mft.now)
-    (g.D.Disk.size (disk_of g.D.Disk (stage_of g.D.Disk c.args.mft.now))) c.in_ok-file.file c.in-Some.first has c.args.mft.now.stands.table are given.number c.in-Some.ensures in
-    subst (λ (v : VolumeView). IsTrue v.told → HoldsRecordBits v c.in_ok-file.file c.in-Some.first → PutsRecordBit v new c.args.n (bit_for c.args.value)) same put told holds)
+    (g.D.Disk.size (disk_of g.D.Disk (stage_of g.D.Disk c.args.mft.now)))
+    c.in_ok-file.file c.in-Some.first has c.args.mft.now.stands.table are given.number c.in-Some.ensures in
+    subst (λ (v : VolumeView). IsTrue v.told → HoldsRecordBits v c.in_ok-file.file c.in-Some.first
+    → PutsRecordBit v new c.args.n (bit_for c.args.value)) same put told holds)
     c.put_held_bit.ensures.put
 
 pub returns-clause-none : goal.returns-clause-none
@@ -79,7 +81,8 @@ returns-clause-places g c told sector there =
     let are = given.parts told has.readable has.is_file in
     let same = view-kept g.D.Disk c.args.mft.now c.load.new.mft _ given.reads in
     let holds = holds-rows volume (mounted_of g.D.Disk c.args.mft.now)
-    (g.D.Disk.size (disk_of g.D.Disk (stage_of g.D.Disk c.args.mft.now))) c.in_ok-file.file c.in-Some.first has c.args.mft.now.stands.table are given.number c.in-Some.ensures in
+    (g.D.Disk.size (disk_of g.D.Disk (stage_of g.D.Disk c.args.mft.now)))
+    c.in_ok-file.file c.in-Some.first has c.args.mft.now.stands.table are given.number c.in-Some.ensures in
     elim (subst (λ (v : VolumeView). HoldsRecordBits v c.in_ok-file.file c.in-Some.first
     → Contains (places g.D.Disk (stage_of g.D.Disk c.load.new.mft)) sector ⊎ IsOfRecordBits v sector) same
     (λ h. c.put_held_bit.ensures.places h sector there) holds) [

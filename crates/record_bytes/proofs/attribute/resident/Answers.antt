@@ -17,7 +17,8 @@ pub returns : goal.returns
 unfolding resident_bytes
 returns c =
     let place = ap (λ k. 24 + k) c.up_to_8-place.ensures in
-    let len : 24 + c.up_to_8-place.result + c.up_to_8.result ≡ resident_len c.args.name.now c.args.value.now = omega (arith, c.up_to_8-place.ensures, c.up_to_8.ensures) in
+    let len : 24 + c.up_to_8-place.result + c.up_to_8.result ≡ resident_len c.args.name.now c.args.value.now =
+    omega (arith, c.up_to_8-place.ensures, c.up_to_8.ensures) in
     let bytes : c.push_padded-2.new.text.items ≡ resident_bytes c.args.kind c.args.name.now c.args.id c.args.value.now =
     c.in_ok-push_padded-2.ensures ∙ ap (after (padded_bytes c.args.value.now)) (
     c.in_ok-push_padded.ensures ∙ ap (after (padded_bytes c.args.name.now)) (
@@ -29,7 +30,10 @@ returns c =
     c.in_ok-push_u32-2.ensures ∙ ap (after (little_bytes 4 (24 + c.up_to_8-place.result + c.up_to_8.result))) (
     c.in_ok-push_u32.ensures ∙ ap (after (little_bytes 4 c.args.kind)) c.new-text.ensures.items))))))))
     ∙ ap (λ l. built c.args.kind c.args.name.now c.args.id c.indexed_byte.result c.args.value.now l (24 + c.up_to_8-place.result)) len
-    ∙ ap (λ q. built c.args.kind c.args.name.now c.args.id c.indexed_byte.result c.args.value.now (resident_len c.args.name.now c.args.value.now) q) place
-    ∙ ap (λ i. built c.args.kind c.args.name.now c.args.id i c.args.value.now (resident_len c.args.name.now c.args.value.now) (value_at c.args.name.now)) c.indexed_byte.ensures in
-    let is = IsResident-bytes c.args.kind c.args.name.now c.args.id c.args.value.now _ c.ranges.kind.fits c.ranges.id.fits c.requires.name c.requires.even c.requires.value c.requires.kind bytes in
+    ∙ ap (λ q. built c.args.kind c.args.name.now c.args.id c.indexed_byte.result c.args.value.now
+    (resident_len c.args.name.now c.args.value.now) q) place
+    ∙ ap (λ i. built c.args.kind c.args.name.now c.args.id i c.args.value.now (resident_len c.args.name.now c.args.value.now)
+    (value_at c.args.name.now)) c.indexed_byte.ensures in
+    let is = IsResident-bytes c.args.kind c.args.name.now c.args.id c.args.value.now _ c.ranges.kind.fits c.ranges.id.fits c.requires.name
+    c.requires.even c.requires.value c.requires.kind bytes in
     record { bytes = bytes; one = is.one; part = is.part; len = is.len; aligned = is.aligned }

@@ -22,7 +22,8 @@ grown_root-requires-clause-short c =
     let value_is : Some c.in-Some.root.now ≡ value_of (attribute_in held.block i).body =
     sym (ap option_copied c.in-Some.is) ∙ c.value.ensures
     ∙ ap (λ (b : List ℕ). value_of (attribute_at b c.attr.result.at).body) (c.attr.ensures.block ∙ c.view.ensures)
-    ∙ ap (λ a. value_of (attribute_at held.block a).body) (c.attr.ensures.place ∙ ap (λ (b : List ℕ). attribute_place b i) c.view.ensures) in
+    ∙ ap (λ a. value_of (attribute_at held.block a).body)
+    (c.attr.ensures.place ∙ ap (λ (b : List ℕ). attribute_place b i) c.view.ensures) in
     short held.block (length (attributes held.block)) i (held-shape held) within c.in-Some.root.now (sym value_is)
 
 pub returns-in-Some-clause-grown : goal.returns-in-Some-clause-grown
@@ -38,7 +39,8 @@ returns-in-Some-clause-grown c =
     let value_is : Some c.in-Some.root.now ≡ value_of (attribute_in held.block i).body =
     sym (ap option_copied c.in-Some.is) ∙ c.value.ensures
     ∙ ap (λ (b : List ℕ). value_of (attribute_at b c.attr.result.at).body) (c.attr.ensures.block ∙ c.view.ensures)
-    ∙ ap (λ a. value_of (attribute_at held.block a).body) (c.attr.ensures.place ∙ ap (λ (b : List ℕ). attribute_place b i) c.view.ensures) in
+    ∙ ap (λ a. value_of (attribute_at held.block a).body)
+    (c.attr.ensures.place ∙ ap (λ (b : List ℕ). attribute_place b i) c.view.ensures) in
     ok-weaker c.grown_root.result (λ grown h. some-weaker grown (λ bytes has.
     to-held file k held at (λ held. GrowsIn order held.block i entry bytes) (record {
       root = c.in-Some.root.now;
@@ -59,7 +61,8 @@ returns-in-Some-clause-none c =
     let value_is : Some c.in-Some.root.now ≡ value_of (attribute_in held.block i).body =
     sym (ap option_copied c.in-Some.is) ∙ c.value.ensures
     ∙ ap (λ (b : List ℕ). value_of (attribute_at b c.attr.result.at).body) (c.attr.ensures.block ∙ c.view.ensures)
-    ∙ ap (λ a. value_of (attribute_at held.block a).body) (c.attr.ensures.place ∙ ap (λ (b : List ℕ). attribute_place b i) c.view.ensures) in
+    ∙ ap (λ a. value_of (attribute_at held.block a).body)
+    (c.attr.ensures.place ∙ ap (λ (b : List ℕ). attribute_place b i) c.view.ensures) in
     ok-weaker c.grown_root.result (λ grown h. none-weaker grown (λ not.
     to-held file k held at (λ held. CanGrowIn is_name_key held.block i (length entry) → ⊥) (λ can.
     not (subst (IsLeafRoot is_name_key) (some_same (sym can.is ∙ sym value_is)) can.leaf))) h) c.grown_root.ensures.none
@@ -76,5 +79,6 @@ returns-in-None-clause-none c =
     let value_is =
     sym (ap option_copied c.in-None.is) ∙ c.value.ensures
     ∙ ap (λ (b : List ℕ). value_of (attribute_at b c.attr.result.at).body) (c.attr.ensures.block ∙ c.view.ensures)
-    ∙ ap (λ a. value_of (attribute_at held.block a).body) (c.attr.ensures.place ∙ ap (λ (b : List ℕ). attribute_place b i) c.view.ensures) in
+    ∙ ap (λ a. value_of (attribute_at held.block a).body)
+    (c.attr.ensures.place ∙ ap (λ (b : List ℕ). attribute_place b i) c.view.ensures) in
     to-held file k held at (λ held. CanGrowIn is_name_key held.block i (length entry) → ⊥) (λ can. none_other (value_is ∙ can.is))

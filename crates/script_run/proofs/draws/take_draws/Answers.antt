@@ -54,5 +54,6 @@ pub returns-clause-did : goal.returns-clause-did
 returns-clause-did g c first ready none =
     let i = c.lines.invariant in
     let end : c.lines._place ≡ c.args.count = omega (arith, c.lines-test.false, c.lines.auto._place-end) in
-    subst (λ k. Drew g.D.Disk first c.args.seed k (g.D.Disk.settled (disk_under g.D.Disk c.args.volume.now)) c.lines.tally c.lines.volume) end
+    subst (λ k. Drew g.D.Disk first c.args.seed k (g.D.Disk.settled (disk_under g.D.Disk c.args.volume.now)) c.lines.tally c.lines.volume)
+    end
     (i.drew first ready none)

@@ -38,7 +38,8 @@ returns-in-Err-clause-ran g c first ready begins none =
     (world g.D.Disk g.S.Source g.K.Sink (disk_under g.D.Disk c.close.new.self) c.args.script.now c.make_lines-end.new.out)
     begins ready.written (sym c.is_broken.ensures ∙ c.if-is_broken.false) (c.make_lines-end.ensures.ran first _ ready none)
     (c.in-Err.ensures.harmed first.view)
-    (is-marked (mark_of g.D.Disk c.make_lines-end.new.volume) c.close.result (λ none. (c.close.ensures.untouched none).0) (ap is_ok c.in-Err.is))
+    (is-marked (mark_of g.D.Disk c.make_lines-end.new.volume) c.close.result
+    (λ none. (c.close.ensures.untouched none).0) (ap is_ok c.in-Err.is))
     (world g.D.Disk g.S.Source g.K.Sink (disk_under g.D.Disk c.make_lines-end.new.volume) c.args.script.now c.make_lines-end.new.out)
     blames refl refl refl c.in-Err.ensures.unsettled
 

@@ -1,6 +1,7 @@
 use Rattle.vol_disk.specs.Stream.{IsAppended, IsAppendedPart}
 use Rattle.session_def.specs.Session.{last_of}
-use Rattle.script_run.proofs.LineLaws.{broke_at, ended_done, ended_memory, ended_much, ended_source, turned_at, went_broken, went_on, went_unprinted}
+use Rattle.script_run.proofs.LineLaws.{broke_at, ended_done, ended_memory, ended_much, ended_source, turned_at}
+use Rattle.script_run.proofs.LineLaws.{went_broken, went_on, went_unprinted}
 use Rattle.script_run.proofs.run.run_line.Goals as goal
 
 pub returns-in-End-clause-did : goal.returns-in-End-clause-did

@@ -9,7 +9,8 @@ lines-init g c = record {
   keeps = goes_none g.D.Disk c.args.volume.now;
   no_faults = record { disk = refl; source = refl; sink = refl };
   so_far = λ first text ready none left.
-      at_start g.D.Disk g.S.Source first text c.args.volume.now c.args.script.now _ c.new-reader.result c.new-reader.ensures ready none left;
+      at_start g.D.Disk g.S.Source first text c.args.volume.now c.args.script.now _ c.new-reader.result
+      c.new-reader.ensures ready none left;
 }
 
 pub returns-in-Some-clause-ran : goal.returns-in-Some-clause-ran

@@ -16,7 +16,8 @@ invariant-lines g l =
     record {
       serves : Serves d l.volume;
       keeps : VolumeGoesOn d l.fn.volume l.volume;
-      no_faults : NoFaults (world d s k (disk_under d l.fn.volume) l.fn.script l.fn.out) (world d s k (disk_under d l.volume) l.script l.out);
+      no_faults : NoFaults (world d s k (disk_under d l.fn.volume) l.fn.script l.fn.out)
+          (world d s k (disk_under d l.volume) l.script l.out);
       so_far : (first : State) (text : List ℕ) → Ready d first.view l.fn.volume first → mark_of d l.fn.volume ≡ None
           → s.left l.fn.script ≡ Some text
           → SoFar d s first text (k.got l.fn.out) (d.settled (disk_under d l.fn.volume)) l.volume l.script (k.got l.out) l.reader;

@@ -3,7 +3,8 @@ use Rattle.std.specs.Prelude.{is_ok}
 use Rattle.tree_ops.specs.Volumes.{disk_under, mark_of}
 use Rattle.script_run.specs.Says.{of_script}
 use Rattle.script_run.specs.World.{world}
-use Rattle.script_run.proofs.CloseLaws.{blames_behind, blames_end, blames_same, is-marked, quiet_lines, ran_broken, ran_closed, ran_unclosed}
+use Rattle.script_run.proofs.CloseLaws.{blames_behind, blames_end, blames_same, is-marked, quiet_lines}
+use Rattle.script_run.proofs.CloseLaws.{ran_broken, ran_closed, ran_unclosed}
 use Rattle.script_run.proofs.TurnLaws.{goes_twice}
 use Rattle.script_run.proofs.run.run_script.Goals as goal
 
@@ -33,7 +34,8 @@ returns-in-Err-clause-ran g c first text ready begins none left =
     c.run_lines-end.new.out)
     begins ready.written (sym c.is_broken.ensures ∙ c.if-is_broken.false)
     (c.run_lines-end.ensures.ran first text ready none left) (c.in-Err.ensures.harmed first.view)
-    (is-marked (mark_of g.D.Disk c.run_lines-end.new.volume) c.close.result (λ none. (c.close.ensures.untouched none).0) (ap is_ok c.in-Err.is))
+    (is-marked (mark_of g.D.Disk c.run_lines-end.new.volume) c.close.result
+    (λ none. (c.close.ensures.untouched none).0) (ap is_ok c.in-Err.is))
     (world g.D.Disk g.S.Source g.K.Sink (disk_under g.D.Disk c.run_lines-end.new.volume) c.run_lines-end.new.script
     c.run_lines-end.new.out)
     c.run_lines-end.ensures.faults refl refl refl c.in-Err.ensures.unsettled

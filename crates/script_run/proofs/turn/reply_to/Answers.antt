@@ -11,7 +11,8 @@ apply-requires-clause-shown g c =
 
 pub returns-in-Ok-clause-replied : goal.returns-in-Ok-clause-replied
 returns-in-Ok-clause-replied g c answered first before ready =
-    of_command SaysLine g.D.Disk first c.args.volume.now c.apply.new.self before c.args.line.now c.in-Ok.session c.in-Ok.command c.apply.result
+    of_command SaysLine g.D.Disk first c.args.volume.now c.apply.new.self before c.args.line.now c.in-Ok.session
+    c.in-Ok.command c.apply.result
     c.in-Ok.ensures (c.apply.ensures.marks answered) (c.apply.ensures.applied answered first before ready)
 
 pub returns-in-Ok-clause-failed : goal.returns-in-Ok-clause-failed

@@ -8,7 +8,14 @@ returns-in-Ok-clause-ends g c =
     let read = c.in-Ok.ensures.reads in
     ends_shown BootReports _ _ _ _ c.show.ensures
     (record {
-      contents = record { now = read.now; settled = read.settled; fenced = read.fenced; sectors = read.size; written = read.written; late = read.late };
+      contents = record {
+        now = read.now;
+        settled = read.settled;
+        fenced = read.fenced;
+        sectors = read.size;
+        written = read.written;
+        late = read.late;
+      };
       left = refl;
       source_faults = refl;
     })

@@ -6,5 +6,6 @@ use Rattle.shell.proofs.boot.report_boot.Goals as goal
 
 pub returns-clause-report : goal.returns-clause-report
 returns-clause-report g c =
-    subst (λ (o : Option (List ℕ)). IfOk c.report_image-answer.result (λ answer. (all : List ℕ) → o ≡ Some all → BootReports all (report_of answer)))
+    subst (λ (o : Option (List ℕ)). IfOk c.report_image-answer.result
+    (λ answer. (all : List ℕ) → o ≡ Some all → BootReports all (report_of answer)))
     c.over-stage.ensures.image c.report_image-answer.ensures.report

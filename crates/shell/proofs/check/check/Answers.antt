@@ -10,7 +10,14 @@ returns-in-Ok g c =
       ends =
           ends_shown CheckReports _ _ _ _ c.show.ensures
           (record {
-            contents = record { now = read.now; settled = read.settled; fenced = read.fenced; sectors = read.size; written = read.written; late = read.late };
+            contents = record {
+              now = read.now;
+              settled = read.settled;
+              fenced = read.fenced;
+              sectors = read.size;
+              written = read.written;
+              late = read.late;
+            };
             left = refl;
             source_faults = refl;
           })

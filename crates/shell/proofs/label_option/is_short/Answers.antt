@@ -4,7 +4,8 @@ use Rattle.shell.proofs.LabelTexts.{IsPassed-first, length-none, length-utf16}
 use Rattle.shell.proofs.label_option.is_short.Goals as goal
 
 pub letters-init : goal.letters-init
-letters-init c = record { back = λ all spelled. (all, subst (λ (t : List ℕ). IsSpelled t all) (sym c.chars-chars.ensures.rest) spelled, omega arith) }
+letters-init c =
+    record { back = λ all spelled. (all, subst (λ (t : List ℕ). IsSpelled t all) (sym c.chars-chars.ensures.rest) spelled, omega arith) }
 
 pub returns-then-len_utf16-room : goal.returns-then-len_utf16-room
 returns-then-len_utf16-room c units spelled =

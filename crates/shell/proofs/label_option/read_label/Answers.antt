@@ -5,4 +5,5 @@ use Rattle.shell.proofs.label_option.read_label.Goals as goal
 
 pub returns-in-Ok-clause-exact : goal.returns-in-Ok-clause-exact
 returns-in-Ok-clause-exact c units label =
-    ap Some (one_name _ _ units (subst (λ (t : List ℕ). IsNameText t c.in-Ok.name) c.as_bytes.ensures.value c.in-Ok.ensures.name) label.name)
+    ap Some (one_name _ _ units (subst (λ (t : List ℕ). IsNameText t c.in-Ok.name) c.as_bytes.ensures.value c.in-Ok.ensures.name)
+    label.name)

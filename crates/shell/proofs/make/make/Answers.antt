@@ -14,7 +14,14 @@ returns-in-Ok g c =
           (world g.D.Disk g.S.Source g.K.Sink c.mount.new.disk c.args.script.now c.args.out.now)
           _ c.in-Ok.mounted c.of_script.ensures
           (record {
-            contents = record { now = read.now; settled = read.settled; fenced = read.fenced; sectors = read.size; written = read.written; late = read.late };
+            contents = record {
+              now = read.now;
+              settled = read.settled;
+              fenced = read.fenced;
+              sectors = read.size;
+              written = read.written;
+              late = read.late;
+            };
             disk = c.in-Ok.ensures.faults;
             left = refl;
             source = refl;
@@ -36,7 +43,14 @@ returns-in-Err g c =
       ends = makes c.args.draws.seed c.args.draws.count _ _ _
           (ends_unmounted (λ from. from ≡ of_seed c.args.draws.seed c.args.draws.count) c.in-Err.no _ _ _ c.refuse.ensures
           (record {
-            contents = record { now = read.now; settled = read.settled; fenced = read.fenced; sectors = read.size; written = read.written; late = read.late };
+            contents = record {
+              now = read.now;
+              settled = read.settled;
+              fenced = read.fenced;
+              sectors = read.size;
+              written = read.written;
+              late = read.late;
+            };
             left = refl;
             source_faults = refl;
           })

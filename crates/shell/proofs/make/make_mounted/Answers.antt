@@ -9,7 +9,13 @@ returns-clause-ran g c image now =
     ran_over g.D.Disk g.S.Source g.K.Sink image (of_seed c.args.draws.seed c.args.draws.count) c.run_made-end.result c.args.disk.now
     (disk_under g.D.Disk c.new-volume.result) (disk_under g.D.Disk c.run_made-end.new.volume) _ c.args.script.now c.args.script.now
     c.args.out.now c.run_made-end.new.out c.new-volume.ensures.disk
-    (search (rules, c.run_made-end.ensures.keeps.same_reference, c.new-volume.ensures.same_reference, c.finish.ensures.same_reference, c.finish.ensures.disk))
+    (search (
+      rules,
+      c.run_made-end.ensures.keeps.same_reference,
+      c.new-volume.ensures.same_reference,
+      c.finish.ensures.same_reference,
+      c.finish.ensures.disk,
+    ))
     (c.run_made-end.ensures.ran (state_on image c.args.mounted (g.D.Disk.written c.args.disk.now))
     (ready-new g.D.Disk c.new-volume.result image c.args.mounted c.args.disk.now c.new-volume.ensures.disk now
     (c.new-volume.ensures.view image now) c.new-volume.ensures.opens c.new-volume.ensures.moment c.new-volume.ensures.unmarked

@@ -14,7 +14,14 @@ returns-in-Ok g c =
           (world g.D.Disk g.S.Source g.K.Sink c.mount.new.disk c.args.script.now c.args.out.now)
           _ c.in-Ok.mounted c.of_script.ensures
           (record {
-            contents = record { now = read.now; settled = read.settled; fenced = read.fenced; sectors = read.size; written = read.written; late = read.late };
+            contents = record {
+              now = read.now;
+              settled = read.settled;
+              fenced = read.fenced;
+              sectors = read.size;
+              written = read.written;
+              late = read.late;
+            };
             disk = c.in-Ok.ensures.faults;
             left = refl;
             source = refl;
@@ -32,7 +39,14 @@ returns-in-Err g c =
       ends =
           ends_unmounted (AreLeft (g.S.Source.left c.args.script.now)) c.in-Err.no _ _ _ c.refuse.ensures
           (record {
-            contents = record { now = read.now; settled = read.settled; fenced = read.fenced; sectors = read.size; written = read.written; late = read.late };
+            contents = record {
+              now = read.now;
+              settled = read.settled;
+              fenced = read.fenced;
+              sectors = read.size;
+              written = read.written;
+              late = read.late;
+            };
             left = refl;
             source_faults = refl;
           })

@@ -6,10 +6,17 @@ use Rattle.shell.proofs.run.run_mounted.Goals as goal
 
 pub returns-clause-ran : goal.returns-clause-ran
 returns-clause-ran g c image text now left =
-    ran_over g.D.Disk g.S.Source g.K.Sink image (of_script text) c.run_script-end.result c.args.disk.now (disk_under g.D.Disk c.new-volume.result)
+    ran_over g.D.Disk g.S.Source g.K.Sink image (of_script text) c.run_script-end.result c.args.disk.now
+    (disk_under g.D.Disk c.new-volume.result)
     (disk_under g.D.Disk c.run_script-end.new.volume) _ c.args.script.now c.run_script-end.new.script c.args.out.now
     c.run_script-end.new.out c.new-volume.ensures.disk
-    (search (rules, c.run_script-end.ensures.keeps.same_reference, c.new-volume.ensures.same_reference, c.finish.ensures.same_reference, c.finish.ensures.disk))
+    (search (
+      rules,
+      c.run_script-end.ensures.keeps.same_reference,
+      c.new-volume.ensures.same_reference,
+      c.finish.ensures.same_reference,
+      c.finish.ensures.disk,
+    ))
     (c.run_script-end.ensures.ran (state_on image c.args.mounted (g.D.Disk.written c.args.disk.now)) text
     (ready-new g.D.Disk c.new-volume.result image c.args.mounted c.args.disk.now c.new-volume.ensures.disk now
     (c.new-volume.ensures.view image now) c.new-volume.ensures.opens c.new-volume.ensures.moment c.new-volume.ensures.unmarked

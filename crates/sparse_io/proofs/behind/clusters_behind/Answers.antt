@@ -13,22 +13,26 @@ use Rattle.sparse_io.specs.Behind.{TellsBehind, len_inside}
 use Rattle.sparse_io.proofs.BehindLaws.{alone-is, content, covers, from-first, not-touched, not-value, not-written, tells-inside}
 use Rattle.sparse_io.proofs.OverLaws.{attribute-like, body-extent, body-value, named-like, unplaced}
 use Rattle.sparse_io.proofs.behind.clusters_behind.Goals as goal
-use Rattle.sparse_io.proofs.behind.clusters_behind.Goals.{else-more-gt0, then-at-sizes-via-else-at-sizes+then-at-size, then-at-sizes-via-then-at-sizes}
-use Rattle.sparse_io.proofs.behind.clusters_behind.Goals.{then-more-gt0+else-len-eq0, then-more-gt0+then-len-eq0}
+use Rattle.sparse_io.proofs.behind.clusters_behind.Goals.{else-more-gt0, then-at-sizes-via-else-at-sizes+then-at-size}
+use Rattle.sparse_io.proofs.behind.clusters_behind.Goals.{then-at-sizes-via-then-at-sizes, then-more-gt0+else-len-eq0}
+use Rattle.sparse_io.proofs.behind.clusters_behind.Goals.{then-more-gt0+then-len-eq0}
 
 pub returns-in_default-clause-tells : goal.returns-in_default-clause-tells
 returns-in_default-clause-tells c = λ view table name h is lies one.
     let a = attribute_of c.attr-stream.result in
     let (value, body) = body-value a.body (sym c.sizes.ensures ∙ c.in_default.is) in
-    absurd (not-value view table name c.args.file.now c.args.found.now h is a c.attr-stream.ensures.part c.look_at_names.ensures value body lies)
+    absurd (not-value view table name c.args.file.now c.args.found.now h is a c.attr-stream.ensures.part
+    c.look_at_names.ensures value body lies)
 
 pub returns-then-at-sizes-clause-tells : goal.returns-then-at-sizes-clause-tells
 returns-then-at-sizes-clause-tells c = λ view table name h is lies one.
     let x = c.args in
     let a = attribute_of c.attr-stream.result in
     let (extent, text, body, same) = body-extent a.body c.in-Some.sizes (sym c.sizes.ensures ∙ c.in-Some.is) in
-    let its = content view table name x.file.now x.found.now h is a c.attr-stream.ensures.part c.look_at_names.ensures extent text body one in
-    let first = from-first view table name x.file.now x.found.now h is a c.attr-stream.ensures.part c.look_at_names.ensures extent text body one in
+    let its = content view table name x.file.now x.found.now h is a c.attr-stream.ensures.part
+    c.look_at_names.ensures extent text body one in
+    let first = from-first view table name x.file.now x.found.now h is a c.attr-stream.ensures.part
+    c.look_at_names.ensures extent text body one in
     let total = covers view table name x.file.now x.found.now h is a c.attr-stream.ensures.part c.look_at_names.ensures extent text body one
     c.in_ok-total.total (c.in_ok-total.ensures is.part.holder) in
     let more_is = c.saturating_sub-more.ensures ∙ ap (λ k. k - c.in_ok-total.total) c.clusters_for.ensures.clusters
@@ -37,7 +41,8 @@ returns-then-at-sizes-clause-tells c = λ view table name h is lies one.
     subst (λ (ps : List Part). TellsBehind x.size ps x.at x.len None)
     (sym (alone-is view table name x.file.now x.found.now h is a c.attr-stream.ensures.part c.look_at_names.ensures extent text body one))
     (elim c.then-at-sizes.branch [
-      | then-at-sizes-via-then-at-sizes w ↦ not-written is.part extent _ its first x.size x.at x.len (omega (arith, w.if-at-sizes.true, written))
+      | then-at-sizes-via-then-at-sizes w ↦ not-written is.part extent _ its first x.size x.at x.len
+          (omega (arith, w.if-at-sizes.true, written))
       | then-at-sizes-via-else-at-sizes+then-at-size w ↦ elim w.if-more-gt0.branch [
         | then-more-gt0+then-len-eq0 v ↦
             not-touched is.part extent _ its first x.size x.at x.len
@@ -46,7 +51,8 @@ returns-then-at-sizes-clause-tells c = λ view table name h is lies one.
             not-touched is.part extent _ its first x.size x.at x.len
             (omega (arith, v.if-more-gt0.true, more_is))
             (inr (omega (arith, ltb-true c.in_ok-total.total (x.at / x.size) (sym v.value-is ∙ w.if-at-size.true), total))) c.requires.size
-        | else-more-gt0 v ↦ absurd (both_ways _ (v.value-is ∙ le-ltb 0 c.saturating_sub-more.result (omega (arith, v.if-more-gt0.false))) w.if-at-size.true)
+        | else-more-gt0 v ↦ absurd
+            (both_ways _ (v.value-is ∙ le-ltb 0 c.saturating_sub-more.result (omega (arith, v.if-more-gt0.false))) w.if-at-size.true)
       ]
     ])
 
@@ -94,7 +100,8 @@ returns-then-branch-clause-tells c = λ view table name h is lies one.
     (omega (arith, c.if-at-sizes.false, written)) way c.requires.size c.in_ok-bytes_placed.field-0 placed in
     subst (λ (ps : List Part). TellsBehind x.size ps x.at x.len (Some c.saturating_sub-more.result)) (sym alone)
     (subst (λ k. TellsBehind x.size (is.part ∷ []) x.at x.len (Some k)) (sym more_is)
-    (subst (λ b. TellsBehind x.size (is.part ∷ []) x.at x.len (if b then Some (clusters_for (x.at + x.len) x.size - part_clusters is.part) else None)) c.if-branch.true tells))
+    (subst (λ b. TellsBehind x.size (is.part ∷ []) x.at x.len
+    (if b then Some (clusters_for (x.at + x.len) x.size - part_clusters is.part) else None)) c.if-branch.true tells))
 
 pub returns-clause-tells : goal.returns-clause-tells
 returns-clause-tells c = λ view table name h is lies one.
@@ -130,7 +137,8 @@ returns-clause-tells c = λ view table name h is lies one.
     let tells = tells-inside is.part extent _ its first x.size x.at x.len c.len_inside-inside.result inside
     (omega (arith, c.if-at-sizes.false, written)) way c.requires.size c.in_ok-bytes_placed.field-0 placed in
     subst (λ (ps : List Part). TellsBehind x.size ps x.at x.len None) (sym alone)
-    (subst (λ b. TellsBehind x.size (is.part ∷ []) x.at x.len (if b then Some (clusters_for (x.at + x.len) x.size - part_clusters is.part) else None)) c.if-branch.false tells)
+    (subst (λ b. TellsBehind x.size (is.part ∷ []) x.at x.len
+    (if b then Some (clusters_for (x.at + x.len) x.size - part_clusters is.part) else None)) c.if-branch.false tells)
 
 pub returns-then-branch-clause-few : goal.returns-then-branch-clause-few
 returns-then-branch-clause-few c = omega (arith, c.saturating_sub-more.ensures, c.clusters_for.ensures.few)

@@ -11,4 +11,5 @@ returns c view h =
     let none : length rest.items ≡ 0 = omega (arith, c.in-None.ensures.steps.0, rest.ok.0) in
     sym (append-nil c.streams.shown.items) ∙ ap (λ l. c.streams.shown.items ++ map shown_kept l) (sym (nil_from_length rest.items none))
     ∙ c.streams.invariant ∙ ap (map shown_kept) (c.into_iter-kept-iterator.ensures.into_iter_gives.0 ∙ c.in_ok-streams.ensures)
-    ∙ list-kept view (parts_held c.args.file.now) _ (streams_held view c.args.file.now) (keeps-streams view c.args.upcase.now c.args.file.now h)
+    ∙ list-kept view (parts_held c.args.file.now) _ (streams_held view c.args.file.now)
+    (keeps-streams view c.args.upcase.now c.args.file.now h)

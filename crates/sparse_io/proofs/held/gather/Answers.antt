@@ -22,7 +22,8 @@ loop-place-preserved c =
     let file = c.args.file.now in
     let index = c.loop-place.place in
     let a = attribute_of c.in-Some.attribute in
-    let (n, at, here, behind) = AreHeld-at index (attributes_held file) (parts_held file) a (attributes_left c.next.new.self) (AreHeld-file file)
+    let (n, at, here, behind) =
+    AreHeld-at index (attributes_held file) (parts_held file) a (attributes_left c.next.new.self) (AreHeld-file file)
     (sym c.loop-place.invariant.left ∙ c.in-Some.ensures.steps) in
     let part = part_of n a in
     let rest = drop (index + 1) (parts_held file) in

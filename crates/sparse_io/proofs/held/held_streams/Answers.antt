@@ -14,9 +14,12 @@ pub returns : goal.returns
 returns c =
     let fold = fold_of c.args.upcase.now in
     let weak = ranks_by (units_total fold) (λ (x : HeldStream). x.name) in
-    sorted-in_order (λ (x y : HeldStream). is_lt (compare_units fold x.name y.name)) weak c.in_ok-streams.streams.items c.sort_by.new.self.items
+    sorted-in_order (λ (x y : HeldStream). is_lt (compare_units fold x.name y.name))
+    weak c.in_ok-streams.streams.items c.sort_by.new.self.items
     (c.in_ok-sort_by.ensures.sorted _ weak (answers_by _ _ (λ f. f.0.now ≡ c.args.upcase.now)
-    (λ f a r g h i. (ap is_lt (h.met.1 ∙ ap (λ t. compare_units (fold_of t) a.0.now.name a.1.0.now.name) i), ap (λ b. b.now) h.met.0 ∙ i)) _ refl))
+    (λ f a r g h i. (ap is_lt (h.met.1 ∙ ap (λ t. compare_units (fold_of t) a.0.now.name a.1.0.now.name) i), ap (λ b. b.now) h.met.0 ∙ i))
+    _ refl))
     (c.in_ok-sort_by.ensures.stable _ weak (answers_by _ _ (λ f. f.0.now ≡ c.args.upcase.now)
-    (λ f a r g h i. (ap is_lt (h.met.1 ∙ ap (λ t. compare_units (fold_of t) a.0.now.name a.1.0.now.name) i), ap (λ b. b.now) h.met.0 ∙ i)) _ refl))
+    (λ f a r g h i. (ap is_lt (h.met.1 ∙ ap (λ t. compare_units (fold_of t) a.0.now.name a.1.0.now.name) i), ap (λ b. b.now) h.met.0 ∙ i))
+    _ refl))
     ∙ ap (in_order (kept_above fold)) c.in_ok-streams.ensures

@@ -43,7 +43,8 @@ pub returns-then-is_none : goal.returns-then-is_none
 returns-then-is_none c size f s =
     let inv = c.runs.invariant in
     let spot = spot_at (parts_held_like c.args.file.now (attribute_of c.args.stream.now)) in
-    let long = subst (λ (o : Option Run). IfSome o (λ run. (0 < run.len) × (c.runs.vcn + run.len ≤ 2 ^ 64))) c.in-Some.is c.in_ok-run.ensures.some in (
+    let long = subst (λ (o : Option Run). IfSome o (λ run. (0 < run.len) × (c.runs.vcn + run.len ≤ 2 ^ 64)))
+    c.in-Some.is c.in_ok-run.ensures.some in (
       c.runs.vcn,
       inv.from,
       inv.below,

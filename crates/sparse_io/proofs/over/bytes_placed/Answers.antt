@@ -8,7 +8,8 @@ use Rattle.sparse_io.proofs.over.bytes_placed.Goals as goal
 
 pub returns-then-len-eq0 : goal.returns-then-len-eq0
 returns-then-len-eq0 c of f s =
-    none-unplaced (spot_at (parts_held_like c.args.file.now (attribute_of c.args.stream.now))) c.args.size c.args.at c.args.len c.requires.size
+    none-unplaced (spot_at (parts_held_like c.args.file.now (attribute_of c.args.stream.now)))
+    c.args.size c.args.at c.args.len c.requires.size
     c.if-len-eq0.true
 
 pub returns : goal.returns

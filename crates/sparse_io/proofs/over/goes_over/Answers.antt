@@ -24,8 +24,10 @@ returns-then-end-sizes c view table name h is =
     let written = ap (λ (z : Sizes). z.initialized) same in
     let real = ap (λ (z : Sizes). z.real) same in
     elim c.then-end-sizes.branch [
-      | then-end-sizes-via-then-end-sizes w ↦ written-over view table name c.args.file.now c.args.found.now h is a c.attr-stream.ensures.part
-          c.look_at_names.ensures c.args.size c.args.at c.args.len c.requires.size extent text body (omega (arith, w.if-end-sizes.true, written))
+      | then-end-sizes-via-then-end-sizes w ↦ written-over view table name c.args.file.now c.args.found.now h is a
+          c.attr-stream.ensures.part
+          c.look_at_names.ensures c.args.size c.args.at c.args.len c.requires.size extent text body
+          (omega (arith, w.if-end-sizes.true, written))
       | then-end-sizes-via-else-end-sizes+then-end-sizes-2 w ↦ real-over view table name c.args.file.now c.args.found.now h is a
           c.attr-stream.ensures.part c.look_at_names.ensures c.args.size c.args.at c.args.len c.requires.size extent text body
           (omega (arith, w.if-end-sizes-2.true, real))
@@ -36,7 +38,8 @@ returns-then-end-eq0 c view table name h is =
     let a = attribute_of c.attr-stream.result in
     let (value, body) = body-value a.body (sym c.sizes.ensures ∙ c.in-None.is) in
     let len = c.real_size.ensures ∙ ap (λ (x : Body). real_size (content_of x)) body in
-    value-over view table name c.args.file.now c.args.found.now h is a c.attr-stream.ensures.part c.look_at_names.ensures c.args.size c.args.at
+    value-over view table name c.args.file.now c.args.found.now h is a c.attr-stream.ensures.part
+    c.look_at_names.ensures c.args.size c.args.at
     c.args.len c.requires.size value body (c.real_size.result == 0)
     (λ e. let none = eqb-true c.real_size.result 0 e in (omega (arith, c.if-end-eq0.true), omega (arith, none, len)))
     (λ e. let some = eqb-false c.real_size.result 0 e in inr (omega (arith, some, len)))
@@ -45,7 +48,8 @@ pub returns-else-end-eq0 : goal.returns-else-end-eq0
 returns-else-end-eq0 c view table name h is =
     let a = attribute_of c.attr-stream.result in
     let (value, body) = body-value a.body (sym c.sizes.ensures ∙ c.in-None.is) in
-    value-over view table name c.args.file.now c.args.found.now h is a c.attr-stream.ensures.part c.look_at_names.ensures c.args.size c.args.at
+    value-over view table name c.args.file.now c.args.found.now h is a c.attr-stream.ensures.part
+    c.look_at_names.ensures c.args.size c.args.at
     c.args.len c.requires.size value body (c.args.at + c.args.len == 0)
     (λ e. let none = eqb-true (c.args.at + c.args.len) 0 e in absurd (omega (arith, none, c.if-end-eq0.false)))
     (λ e. let some = eqb-false (c.args.at + c.args.len) 0 e in inl (omega (arith, some)))

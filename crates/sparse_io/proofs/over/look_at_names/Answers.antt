@@ -15,7 +15,8 @@ loop-attribute-preserved c a there = elim (c.loop-attribute.invariant a there) [
   | inl done ↦ inl done
   | inr left ↦ elim (Contains-cases (attribute_of c.in-Some.attribute) (attributes_left c.next.new.self) a
       (subst (λ (all : List Attribute). Contains all a) c.in-Some.ensures.steps left)) [
-        | inl here ↦ inl (λ k. subst (λ (xs : List ℕ). slice_index xs k < 256) (c.name.ensures ∙ ap (λ (x : Attribute). x.name) here) (c.byte_below.ensures k))
+        | inl here ↦ inl (λ k. subst (λ (xs : List ℕ). slice_index xs k < 256) (c.name.ensures ∙ ap (λ (x : Attribute). x.name) here)
+            (c.byte_below.ensures k))
         | inr behind ↦ inr behind
       ]
 ]

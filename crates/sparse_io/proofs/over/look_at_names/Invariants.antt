@@ -8,7 +8,8 @@ use Rattle.sparse_io.proofs.over.look_at_names.Given as goal
 -- those that were passed over have bytes
 abbrev pub invariant-loop-attribute : goal.invariant-loop-attribute
 invariant-loop-attribute l =
-    (a : Attribute) → Contains (attributes_held l.file) a → ((k : ℕ) → slice_index a.name k < 256) ⊎ Contains (attributes_left l.attributes) a
+    (a : Attribute) → Contains (attributes_held l.file) a
+    → ((k : ℕ) → slice_index a.name k < 256) ⊎ Contains (attributes_left l.attributes) a
 
 abbrev pub decreases-loop-attribute : goal.decreases-loop-attribute
 decreases-loop-attribute l = length (attributes_left l.attributes)

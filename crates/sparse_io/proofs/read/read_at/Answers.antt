@@ -28,7 +28,8 @@ returns-in_default-2-clause-read g c told =
     (c.in_ok-base.ensures.parts told known.readable) in
     let case = ap (λ m. m.upcase) (c.mounted.ensures ∙ c.in_ok-base.ensures.reads.mounted) in
     let held = held-base volume _ _ c.in-Some.base.parts known case (subst (IsFile volume) (sym number) (c.requires.file told)) are in
-    let none = subst (IsStreamIfThere volume c.in-Some.base.parts c.args.stream.now) c.in_default-2.is (c.in_ok-found.ensures.found volume held) in
+    let none = subst (IsStreamIfThere volume c.in-Some.base.parts c.args.stream.now) c.in_default-2.is
+    (c.in_ok-found.ensures.found volume held) in
     none-there volume c.mounted.result.now.upcase c.args.stream.now c.in-Some.base.parts c.args.file _ held number none
 
 pub returns-clause-read : goal.returns-clause-read
@@ -40,7 +41,8 @@ returns-clause-read g c told =
     (c.in_ok-base.ensures.parts told known.readable) in
     let case = ap (λ m. m.upcase) (c.mounted.ensures ∙ c.in_ok-base.ensures.reads.mounted) in
     let held = held-base volume _ _ c.in-Some.base.parts known case (subst (IsFile volume) (sym number) (c.requires.file told)) are in
-    let is = subst (IsStreamIfThere volume c.in-Some.base.parts c.args.stream.now) c.in-Some-2.is (c.in_ok-found.ensures.found volume held) in
+    let is = subst (IsStreamIfThere volume c.in-Some.base.parts c.args.stream.now) c.in-Some-2.is
+    (c.in_ok-found.ensures.found volume held) in
     let kept = view-kept g.D.Disk c.args.mft.now c.load_base.new.mft 20678 c.in_ok-base.ensures.reads in
     let read = subst (λ v. IsTrue v.told → (table name : List ℕ) → IsHeldWith v table c.in-Some.base.parts
     → (is : IsStream v c.in-Some.base.parts name c.in-Some-2.found) → is_packed is.stream.content ≡ false
@@ -52,12 +54,14 @@ pub returns-clause-reads : goal.returns-clause-reads
 returns-clause-reads g c =
     let pieces = pieces_touched c.args.at (min c.args.len (c.in-Some-2.found.size - c.args.at)) in
     let few = touched-le c.args.at (min c.args.len (c.in-Some-2.found.size - c.args.at)) c.args.len (omega arith) in
-    MftReads-then g.D.Disk c.args.mft.now c.load_base.new.mft c.read_stream.new.mft 20678 pieces (20678 + pieces_touched c.args.at c.args.len)
+    MftReads-then g.D.Disk c.args.mft.now c.load_base.new.mft c.read_stream.new.mft 20678 pieces
+    (20678 + pieces_touched c.args.at c.args.len)
     c.in_ok-base.ensures.reads c.read_stream.ensures.reads (omega (arith, few))
 
 pub returns-in_err-read_stream-clause-reads : goal.returns-in_err-read_stream-clause-reads
 returns-in_err-read_stream-clause-reads g c =
     let pieces = pieces_touched c.args.at (min c.args.len (c.in-Some-2.found.size - c.args.at)) in
     let few = touched-le c.args.at (min c.args.len (c.in-Some-2.found.size - c.args.at)) c.args.len (omega arith) in
-    MftReads-then g.D.Disk c.args.mft.now c.load_base.new.mft c.read_stream.new.mft 20678 pieces (20678 + pieces_touched c.args.at c.args.len)
+    MftReads-then g.D.Disk c.args.mft.now c.load_base.new.mft c.read_stream.new.mft 20678 pieces
+    (20678 + pieces_touched c.args.at c.args.len)
     c.in_ok-base.ensures.reads c.read_stream.ensures.reads (omega (arith, few))

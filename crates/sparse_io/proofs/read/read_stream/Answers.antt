@@ -11,6 +11,7 @@ returns-clause-read g c told table name h is plain =
     let bytes = c.in_ok-bytes.bytes in
     let count = c.deref_mut.ensures.len ∙ c.in_ok-bytes.ensures.len ∙ c.below_size.ensures in
     let whole = sym (c.read_value.auto.into ∙ c.deref_mut.ensures.len) in
-    c.from_vec.ensures ∙ ap (λ n. take n (new ++ drop (length new) bytes.items)) whole ∙ take-append_seam new (drop (length new) bytes.items)
+    c.from_vec.ensures ∙ ap (λ n. take n (new ++ drop (length new) bytes.items)) whole
+    ∙ take-append_seam new (drop (length new) bytes.items)
     ∙ read-range (view g.D.Disk c.args.mft.now) table name c.args.file.now c.args.found.now c.args.at c.args.len old new h is plain count
     c.read_value.auto.into (c.in_ok-read_value.ensures.read told h.readable h.parts h.is_file)

@@ -45,9 +45,11 @@ pieces-preserved g c =
       seam = next-seam at (at + done) done len (length bytes) lt refl its.few its.aligned;
       disk = KeepsDisk-then g.D.Disk c.args.mft.now c.pieces.mft c.write_piece.new.mft inv.disk c.write_piece.ensures.disk;
       faults = c.in_ok-write_piece.ensures.faults ∙ inv.faults;
-      few = (next-few at done len (length bytes) (length (places g.D.Disk v0)) (length (places g.D.Disk v1)) (length (places g.D.Disk v2)) lt
+      few =
+          (next-few at done len (length bytes) (length (places g.D.Disk v0)) (length (places g.D.Disk v1)) (length (places g.D.Disk v2)) lt
           its.some fits inv.seam inv.few c.write_piece.ensures.few).0;
-      places = staged-next g.D.Disk old.layout now.layout spot at (length bytes) (at + done) (length (slice_range bytes done (done + len))) v0 v1
+      places = staged-next g.D.Disk old.layout now.layout spot at (length bytes) (at + done)
+          (length (slice_range bytes done (done + len))) v0 v1
           v2 (omega arith) (omega (arith, piece.1, fits)) (ap mounted_layout inv.disk.mounted) inv.places c.write_piece.ensures.places;
       written = written-next old now next spot at done (at + done) len bytes (slice_range bytes done (done + len)) fits refl piece.0 piece.1
           inv.written c.in_ok-write_piece.ensures.written;
@@ -73,8 +75,10 @@ returns-in_err-write_piece-clause-few g c =
     let its = c.piece_len-len.ensures in
     let inv = c.pieces.invariant in
     let lt = c.pieces-test.true in
-    (next-few c.args.at c.pieces.done c.piece_len-len.result (length c.args.bytes.now) (length (places g.D.Disk (stage_of g.D.Disk c.args.mft.now)))
-    (length (places g.D.Disk (stage_of g.D.Disk c.pieces.mft))) (length (places g.D.Disk (stage_of g.D.Disk c.write_piece.new.mft))) lt its.some
+    (next-few c.args.at c.pieces.done c.piece_len-len.result (length c.args.bytes.now)
+    (length (places g.D.Disk (stage_of g.D.Disk c.args.mft.now)))
+    (length (places g.D.Disk (stage_of g.D.Disk c.pieces.mft)))
+    (length (places g.D.Disk (stage_of g.D.Disk c.write_piece.new.mft))) lt its.some
     (omega (arith, its.few, lt)) inv.seam inv.few c.write_piece.ensures.few).1
 
 pub returns-in_err-write_piece-clause-disk : goal.returns-in_err-write_piece-clause-disk

@@ -59,7 +59,8 @@ returns-in_err-overwrite_piece-clause-places g c told table name h is =
     let attribute = found-like_attribute old table name file found h is a c.attr-stream.ensures.part in
     let first = staged-first g.D.Disk old.layout (spot_at extents) at all (at + length head) (length middle) v0 v1 (omega arith)
     (omega (arith, n, front, back, mid)) (c.overwrite_sectors.ensures.places told table name h is) in
-    staged-piece g.D.Disk old.layout (view g.D.Disk c.overwrite_sectors.new.mft).layout (parts_held_like file a) extents f at all at (length head)
+    staged-piece g.D.Disk old.layout (view g.D.Disk c.overwrite_sectors.new.mft).layout
+    (parts_held_like file a) extents f at all at (length head)
     v0 v1 v2 (omega arith) (omega (arith, n, front)) l1 like attribute first c.overwrite_piece.ensures.places
 
 pub returns-clause-places : goal.returns-clause-places
@@ -90,10 +91,12 @@ returns-clause-places g c told table name h is =
     let attribute = found-like_attribute old table name file found h is a c.attr-stream.ensures.part in
     let first = staged-first g.D.Disk old.layout (spot_at extents) at all (at + length head) (length middle) v0 v1 (omega arith)
     (omega (arith, n, front, back, mid)) (c.overwrite_sectors.ensures.places told table name h is) in
-    let second = staged-piece g.D.Disk old.layout (view g.D.Disk c.overwrite_sectors.new.mft).layout (parts_held_like file a) extents f at all at
+    let second = staged-piece g.D.Disk old.layout (view g.D.Disk c.overwrite_sectors.new.mft).layout
+    (parts_held_like file a) extents f at all at
     (length head) v0 v1 v2 (omega arith) (omega (arith, n, front)) l1 like attribute first c.overwrite_piece.ensures.places in
     staged-piece g.D.Disk old.layout (view g.D.Disk c.overwrite_piece.new.mft).layout (parts_held_like file a) extents f at all
-    (at + length head + length middle) (length tail) v0 v2 v3 (omega arith) (omega (arith, n, front, back, mid, end)) l2 like attribute second
+    (at + length head + length middle) (length tail) v0 v2 v3 (omega arith)
+    (omega (arith, n, front, back, mid, end)) l2 like attribute second
     c.overwrite_piece-2.ensures.places
 
 pub returns-clause-written : goal.returns-clause-written

@@ -42,12 +42,14 @@ returns-in-Hole g c =
     record {
       written = λ told f s apart own placed.
           let there = placed at (omega arith, omega (arith, ne)) in
-          let is : c.in_ok-cluster.field-0 ≡ At there.0 = c.in_ok-cluster.ensures (cluster_bytes layout) f s ∙ ap (λ n. spot (at / n)) size ∙ there.1 in
+          let is : c.in_ok-cluster.field-0 ≡ At there.0 =
+          c.in_ok-cluster.ensures (cluster_bytes layout) f s ∙ ap (λ n. spot (at / n)) size ∙ there.1 in
           absurd (elim c.in-Hole.is [
             | inl hole ↦ let e : Hole ≡ At there.0 = sym hole ∙ is in nowhere-hole there.0 e
             | inr out ↦ let e : Outside ≡ At there.0 = sym out ∙ is in nowhere-outside there.0 e
           ]);
-      places = λ f s. StagesOnly-none g.D.Disk (touched_sectors layout spot at (length c.args.piece.now)) (stage_of g.D.Disk c.args.mft.now);
+      places = λ f s. StagesOnly-none g.D.Disk (touched_sectors layout spot at (length c.args.piece.now))
+          (stage_of g.D.Disk c.args.mft.now);
       few = omega arith;
       disk = KeepsDisk-same g.D.Disk c.args.mft.now;
       err = tt;

@@ -36,7 +36,8 @@ returns-clause-places g c spot at lies is =
     let same = view-kept g.D.Disk c.args.mft.now c.patched.new.mft 1 c.in_ok-bytes.ensures.reads in
     let per = c.cluster_sectors.ensures.sectors ∙ ap (λ (v : VolumeView). v.layout.cluster_sectors) same in
     let all = touched_sectors old.layout spot at (length c.args.piece.now) in
-    let named = patched-named old.layout spot at c.args.cluster c.args.skip (length c.args.piece.now) c.args.mft.now.stands.table.some lies is
+    let named = patched-named old.layout spot at c.args.cluster c.args.skip
+    (length c.args.piece.now) c.args.mft.now.stands.table.some lies is
     c.requires.some in
     record {
       only = λ s there. elim (c.stage_sector.ensures.places.only s there) [

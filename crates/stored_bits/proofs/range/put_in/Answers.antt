@@ -18,7 +18,8 @@ returns-clause-put g c = on_ok_weaker c.overwrite.result (λ written told table 
     let from = c.args.at / 8 in
     let kept = view-kept g.D.Disk c.args.mft.now c.read_stored.new.mft _ c.read_stored.ensures.reads in
     let same = c.read_stored.auto.into in
-    held-put c.args.value old new table file found h c.args.at c.args.len c.read_stored.new.into c.put_flags.new.bytes told c.requires.some inside
+    held-put c.args.value old new table file found h c.args.at c.args.len c.read_stored.new.into c.put_flags.new.bytes
+    told c.requires.some inside
     (same ∙ c.requires.whole) c.put_flags.ensures.len c.put_flags.ensures.here c.put_flags.ensures.others
     (λ readable are is_file kind name stored fits.
     c.in_ok-read_stored.ensures.read told readable are is_file kind name stored (omega (arith, fits, same))

@@ -22,7 +22,8 @@ returns-clause-taken g c = on_ok_weaker c.take_held.result (λ takes told placed
     → HoldsBits old mounted.upcase bits.file bits.found)) c.in-Some.is
     c.in_ok-bits.ensures.holds in
     (takes-unowned old (view g.D.Disk c.hold_bits.new.mft) (view g.D.Disk c.take_held.new.mft) mounted
-    (mounted_of g.D.Disk c.hold_bits.new.mft) (mounted_of g.D.Disk c.take_held.new.mft) bits.file bits.found c.args.run same only.mounted told
+    (mounted_of g.D.Disk c.hold_bits.new.mft) (mounted_of g.D.Disk c.take_held.new.mft)
+    bits.file bits.found c.args.run same only.mounted told
     (c.requires.volume told) (holds told) takes unowned).0) c.take_held.ensures.taken
 
 pub returns-clause-stored : goal.returns-clause-stored
@@ -36,7 +37,8 @@ returns-clause-stored g c = on_ok_weaker c.take_held.result (λ takes told place
     → HoldsBits old mounted.upcase bits.file bits.found)) c.in-Some.is
     c.in_ok-bits.ensures.holds in
     (takes-unowned old (view g.D.Disk c.hold_bits.new.mft) (view g.D.Disk c.take_held.new.mft) mounted
-    (mounted_of g.D.Disk c.hold_bits.new.mft) (mounted_of g.D.Disk c.take_held.new.mft) bits.file bits.found c.args.run same only.mounted told
+    (mounted_of g.D.Disk c.hold_bits.new.mft) (mounted_of g.D.Disk c.take_held.new.mft)
+    bits.file bits.found c.args.run same only.mounted told
     (c.requires.volume told) (holds told) takes unowned).1) c.take_held.ensures.taken
 
 pub returns-clause-none : goal.returns-clause-none

@@ -12,7 +12,8 @@ use Rattle.tree_edit.specs.Alone.{bits_asked, room_to_resize}
 use Rattle.tree_edit.specs.Decided.{can_resize_by}
 use Rattle.tree_edit.specs.Writable.{named_in}
 use Rattle.tree_edit.proofs.AskedLaws.{asked-none, asks-both, extent-none, refuses-first, room-clusters, room-longer, room-shorter}
-use Rattle.tree_edit.proofs.WayLaws.{resizable-asked, resizable-bits, resizable-extent, resizable-movable, resizable-moved, resizable-none, resizable-value}
+use Rattle.tree_edit.proofs.WayLaws.{resizable-asked, resizable-bits, resizable-extent, resizable-movable}
+use Rattle.tree_edit.proofs.WayLaws.{resizable-moved, resizable-none, resizable-value}
 use Rattle.tree_edit.proofs.alone.ask_to_resize.Goals as goal
 
 pub returns-in-InPlace : goal.returns-in-InPlace
@@ -26,7 +27,8 @@ returns-in_err-ask_for_bits-in-IntoClusters g c = record {
   asked = λ name.
       let why = c.in_err-ask_for_bits-in-IntoClusters.field-0.0 in
       rw (handed-on c.from_residual-in_err-ask_for_bits-in-IntoClusters.result why
-      c.from_residual-in_err-ask_for_bits-in-IntoClusters.ensures.1) (tells c.in_err-ask_for_bits-in-IntoClusters.ensures.asked refl (λ told says is.
+      c.from_residual-in_err-ask_for_bits-in-IntoClusters.ensures.1)
+      (tells c.in_err-ask_for_bits-in-IntoClusters.ensures.asked refl (λ told says is.
       let v = view g.D.Disk c.args.mft.now in
       let found = c.args.found.now in
       subst (λ o. Says (has_room o) (Err why)) (sym (resizable-moved v found name c.args.size is c.in-IntoClusters.is))
@@ -35,7 +37,8 @@ returns-in_err-ask_for_bits-in-IntoClusters g c = record {
 
 pub returns-in_ok-ask_for_bits-in-IntoClusters : goal.returns-in_ok-ask_for_bits-in-IntoClusters
 returns-in_ok-ask_for_bits-in-IntoClusters g c = record {
-  asked = λ name. tells (both c.in_ok-ask_for_bits-in-IntoClusters.ensures.asked (c.ask_to_move_to.ensures.asked name c.args.size)) refl (λ told says is.
+  asked = λ name. tells (both c.in_ok-ask_for_bits-in-IntoClusters.ensures.asked (c.ask_to_move_to.ensures.asked name c.args.size))
+      refl (λ told says is.
       let v = view g.D.Disk c.args.mft.now in
       let found = c.args.found.now in
       let so = c.in-IntoClusters.is in
@@ -49,7 +52,8 @@ pub returns-in_err-ask_for_bits-in-InClusters : goal.returns-in_err-ask_for_bits
 returns-in_err-ask_for_bits-in-InClusters g c = record {
   asked = λ name.
       let why = c.in_err-ask_for_bits-in-InClusters.field-0.0 in
-      rw (handed-on c.from_residual.result why c.from_residual.ensures.1) (tells c.in_err-ask_for_bits-in-InClusters.ensures.asked refl (λ told says is.
+      rw (handed-on c.from_residual.result why c.from_residual.ensures.1)
+      (tells c.in_err-ask_for_bits-in-InClusters.ensures.asked refl (λ told says is.
       let v = view g.D.Disk c.args.mft.now in
       let found = c.args.found.now in
       subst (λ o. Says (has_room o) (Err why)) (sym (resizable-bits v found name c.args.size is c.in-InClusters.is))

@@ -23,5 +23,6 @@ returns-clause-is c =
     let own = mounts-own view c.args.mounted.now c.args.cluster_bytes mounts in
     let extent = sym c.if-not-branch.false ∙ c.in_ok-is_extent.ensures.is view own sound n name is in
     end-long view c.args.mounted.now c.args.held.now own sound n name c.args.stream.now is c.args.size extent c.if-size-stream.false last
-    (ends-is view c.args.held.now n name c.args.stream.now is c.args.cluster_bytes 0 0 mounts.size_is extent c.look_at_names.ensures c.args.size
+    (ends-is view c.args.held.now n name c.args.stream.now is c.args.cluster_bytes 0 0 mounts.size_is extent
+    c.look_at_names.ensures c.args.size
     last ends)) c.ends_in_last.ensures.ends

@@ -25,7 +25,8 @@ pub returns-clause-decides : goal.returns-clause-decides
 returns-clause-decides c = λ view mounts sound n.
     let found = c.in_ok-stream.ensures.found view n mounts.case in
     let kept = ap (kept_from_writing c.args.opens.now) (sym c.number.ensures) ∙ sym c.kept_from_writing.ensures ∙ c.in_default.is in
-    drop-decided view c.args.mounted.now c.args.held mounts sound n c.args.name.now c.in_ok-stream.stream found.0.is c.way_to_drop-way.result _
+    drop-decided view c.args.mounted.now c.args.held mounts sound n c.args.name.now c.in_ok-stream.stream found.0.is
+    c.way_to_drop-way.result _
     c.give_by.result (IfOk-weaker c.way_to_drop-way.result _ _ (λ way so. so view mounts sound n c.args.name.now found.0.is)
     c.way_to_drop-way.ensures.way) c.give_by.ensures.way c.give_by.ensures.gives found.0
     (drop-shared view c.args.held n c.args.name.now c.args.opens.now (sym c.is_of_directory.ensures ∙ c.if-is_of_directory.false)
@@ -33,5 +34,6 @@ returns-clause-decides c = λ view mounts sound n.
 
 pub returns-clause-inside : goal.returns-clause-inside
 returns-clause-inside c =
-    given-inside c.way_to_drop-way.result c.give_by.result c.give_by.ensures.way c.args.held c.in_ok-stream.stream _ c.way_to_drop-way.ensures.inside
+    given-inside c.way_to_drop-way.result c.give_by.result c.give_by.ensures.way c.args.held c.in_ok-stream.stream _
+    c.way_to_drop-way.ensures.inside
     c.give_by.ensures.gives

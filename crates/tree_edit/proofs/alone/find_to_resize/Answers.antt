@@ -39,7 +39,8 @@ returns-clause-answered g c =
     let found = c.in_ok-found.found in
     asked-on g.D.Disk (λ v. resize_wanted v a.opens.now a.path.now name a.size) (λ v. resize_found v a.opens.now a.path.now name a.size)
     (λ v f. asked_to_resize v name a.size f) (λ v. resize-last v name a.opens.now a.path.now a.size) (number_of found.held)
-    (λ v. IsResizableSo v found name a.size) c.in_ok-found.ensures.answered c.in_ok-found.ensures.can (c.in_ok-ask_to_resize.ensures.asked name)
+    (λ v. IsResizableSo v found name a.size) c.in_ok-found.ensures.answered c.in_ok-found.ensures.can
+    (c.in_ok-ask_to_resize.ensures.asked name)
 
 pub returns-clause-can : goal.returns-clause-can
 returns-clause-can g c = λ told.
@@ -49,5 +50,6 @@ returns-clause-can g c = λ told.
     let known = c.in_ok-found.ensures.can told in
     to-resize (view g.D.Disk a.mft.now) found name a.size known
     (asked-known g.D.Disk (λ v. resize_found v a.opens.now a.path.now name a.size) (λ v f. asked_to_resize v name a.size f)
-    (number_of found.held) (λ v. IsResizableSo v found name a.size) c.in_ok-found.ensures.answered (c.in_ok-ask_to_resize.ensures.asked name)
+    (number_of found.held) (λ v. IsResizableSo v found name a.size) c.in_ok-found.ensures.answered
+    (c.in_ok-ask_to_resize.ensures.asked name)
     told known)

@@ -18,7 +18,8 @@ returns-in-Some-found-clause-decides c = λ view mounts sound n.
     c.in-Some-found.is (c.in_ok-found.ensures.found view n mounts.case) in
     let kept =
     ap (kept_from_writing c.args.opens.now) (sym c.number.ensures) ∙ sym c.kept_from_writing.ensures ∙ c.in_default.is in
-    resize-decided view c.args.mounted.now c.args.held (mounts-own view c.args.mounted.now c.args.cluster_bytes mounts) sound n c.args.name.now stream found.0.is c.args.size
+    resize-decided view c.args.mounted.now c.args.held
+    (mounts-own view c.args.mounted.now c.args.cluster_bytes mounts) sound n c.args.name.now stream found.0.is c.args.size
     c.way_to_resize-way.result _ c.give_by.result (IfOk-weaker c.way_to_resize-way.result _ _
     (λ way so. so view mounts sound n c.args.name.now found.0.is) c.way_to_resize-way.ensures.way) c.give_by.ensures.way
     c.give_by.ensures.gives found.0

@@ -15,5 +15,6 @@ returns-then-branch-2-clause-way c = λ view mounts sound n name is.
 pub returns-clause-way : goal.returns-clause-way
 returns-clause-way c = λ view mounts sound n name is.
     let f = number_of c.args.held.now in
-    or_from (can_drop view name f) (can_give view name f) (sym (c.in_ok-is_alone.ensures.is view mounts sound n name is) ∙ c.if-branch.false)
+    or_from (can_drop view name f) (can_give view name f)
+    (sym (c.in_ok-is_alone.ensures.is view mounts sound n name is) ∙ c.if-branch.false)
     (sym (c.in_ok-is_extent.ensures.is view mounts sound n name is) ∙ c.if-branch-2.false)

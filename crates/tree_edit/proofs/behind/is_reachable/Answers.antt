@@ -22,7 +22,8 @@ returns-in-Some-clause-is c = λ view mounts sound n name is.
     subst (λ (o : Option ℕ). TellsBehind a.cluster_bytes (parts_named view (number_of a.held.now) is.stream.name) a.at a.len o) c.in-Some.is
     (told view a.held.now n name a.stream.now is a.cluster_bytes a.at a.len mounts.size_is extent
     (λ (ps : List Part). TellsBehind a.cluster_bytes ps a.at a.len c.in_ok-count.field-0) c.in_ok-count.ensures.tells) in
-    reach-some view a.held.now n name a.stream.now is a.cluster_bytes a.at a.len mounts.size_is extent c.in-Some.count c.free_beside-free.result
+    reach-some view a.held.now n name a.stream.now is a.cluster_bytes a.at a.len mounts.size_is extent c.in-Some.count
+    c.free_beside-free.result
     some c.free_beside-free.ensures c.can_take.result (c.can_take.ensures view mounts.bits)
 
 pub returns-in-None-clause-is : goal.returns-in-None-clause-is
@@ -31,6 +32,7 @@ returns-in-None-clause-is c = λ view mounts sound n name is.
     let extent =
     sym c.if-not-branch.false ∙ c.in_ok-is_extent.ensures.is view (mounts-own view a.mounted.now a.cluster_bytes mounts) sound n name is in
     reach-none view a.held.now n name a.stream.now is a.cluster_bytes a.at a.len mounts.size_is extent
-    (subst (λ (o : Option ℕ). TellsBehind a.cluster_bytes (parts_named view (number_of a.held.now) is.stream.name) a.at a.len o) c.in-None.is
+    (subst (λ (o : Option ℕ). TellsBehind a.cluster_bytes (parts_named view (number_of a.held.now) is.stream.name) a.at a.len o)
+    c.in-None.is
     (told view a.held.now n name a.stream.now is a.cluster_bytes a.at a.len mounts.size_is extent
     (λ (ps : List Part). TellsBehind a.cluster_bytes ps a.at a.len c.in_ok-count.field-0) c.in_ok-count.ensures.tells))

@@ -8,6 +8,7 @@ use Rattle.tree_edit.proofs.extent.count_of.Given as goal
 abbrev pub invariant-loop-index : goal.invariant-loop-index
 invariant-loop-index l = record {
   left : attributes_left l.attributes ≡ drop l.index (attributes_held l.file);
-  counted : l.count + count_by (is_of l.kind l.name) (drop l.index (parts_held l.file)) ≡ count_by (is_of l.kind l.name) (parts_held l.file);
+  counted : l.count + count_by (is_of l.kind l.name) (drop l.index (parts_held l.file))
+      ≡ count_by (is_of l.kind l.name) (parts_held l.file);
   few : l.count ≤ l.index;
 }

@@ -9,7 +9,8 @@ returns-then-not-branch-clause-is c = λ view mounts sound n name is.
 
 pub returns-then-has_list-clause-is : goal.returns-then-has_list-clause-is
 returns-then-has_list-clause-is c = λ view mounts sound n name is.
-    give-listed view c.args.mounted.now c.args.held.now mounts sound n name c.args.stream.now is (sym c.has_list.ensures ∙ c.if-has_list.true)
+    give-listed view c.args.mounted.now c.args.held.now mounts sound n name c.args.stream.now is
+    (sym c.has_list.ensures ∙ c.if-has_list.true)
 
 pub returns-clause-is : goal.returns-clause-is
 returns-clause-is c = λ view mounts sound n name is.

@@ -12,7 +12,8 @@ returns-in-Ok-None-clause-found c = λ view n case.
     let held = c.args.held.now in
     let name = c.args.name.now in
     c.missing.ensures.found view n (missing-content view held n name
-    (subst (IsStreamIfThere view held.parts name) c.in-Ok-None.field-0-is (c.in-Ok-None.ensures.found view (held-with view held n c.args.upcase.now case))))
+    (subst (IsStreamIfThere view held.parts name) c.in-Ok-None.field-0-is
+    (c.in-Ok-None.ensures.found view (held-with view held n c.args.upcase.now case))))
 
 pub returns-in-Ok-None-clause-place : goal.returns-in-Ok-None-clause-place
 returns-in-Ok-None-clause-place c =

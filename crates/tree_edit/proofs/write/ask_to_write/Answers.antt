@@ -22,7 +22,8 @@ pub returns-in_err-ask_for_bits-in-InClusters : goal.returns-in_err-ask_for_bits
 returns-in_err-ask_for_bits-in-InClusters g c = record {
   asked = λ name.
       let why = c.in_err-ask_for_bits-in-InClusters.field-0.0 in
-      rw (handed-on c.from_residual.result why c.from_residual.ensures.1) (tells c.in_err-ask_for_bits-in-InClusters.ensures.asked refl (λ told says is.
+      rw (handed-on c.from_residual.result why c.from_residual.ensures.1)
+      (tells c.in_err-ask_for_bits-in-InClusters.ensures.asked refl (λ told says is.
       let a = c.args in
       let v = view g.D.Disk a.mft.now in
       subst (λ o. Says (has_room o) (Err why)) (sym (room-reached v a.found.now name a.at a.len is c.in-InClusters.is))
@@ -46,7 +47,8 @@ returns-in_err-ask_for_bits-in-IntoClusters g c = record {
   asked = λ name.
       let why = c.in_err-ask_for_bits-in-IntoClusters.field-0.0 in
       rw (handed-on c.from_residual-in_err-ask_for_bits-in-IntoClusters.result why
-      c.from_residual-in_err-ask_for_bits-in-IntoClusters.ensures.1) (tells c.in_err-ask_for_bits-in-IntoClusters.ensures.asked refl (λ told says is.
+      c.from_residual-in_err-ask_for_bits-in-IntoClusters.ensures.1)
+      (tells c.in_err-ask_for_bits-in-IntoClusters.ensures.asked refl (λ told says is.
       let a = c.args in
       let v = view g.D.Disk a.mft.now in
       subst (λ o. Says (has_room o) (Err why)) (sym (room-moved v a.found.now name a.at a.len is c.in-IntoClusters.is))

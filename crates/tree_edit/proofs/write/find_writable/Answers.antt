@@ -28,7 +28,8 @@ returns-in_err-ask_to_write-clause-answered g c =
     let found = c.in_ok-found.found in
     let why = c.in_err-ask_to_write.field-0.0 in
     rw (handed-on c.from_residual-in_err-ask_to_write.result why c.from_residual-in_err-ask_to_write.ensures.1)
-    (asked-stop g.D.Disk (λ v. write_wanted v a.opens.now a.path.now name a.at a.len) (λ v. write_found v a.opens.now a.path.now name a.at a.len)
+    (asked-stop g.D.Disk (λ v. write_wanted v a.opens.now a.path.now name a.at a.len)
+    (λ v. write_found v a.opens.now a.path.now name a.at a.len)
     (λ v f. asked_to_write v name a.at a.len f) (λ v. write-last v name a.at a.len a.opens.now a.path.now) (number_of found.held)
     (λ v. IsWritableSo v found name a.at a.len) c.in_ok-found.ensures.answered c.in_ok-found.ensures.can why
     (c.in_err-ask_to_write.ensures.asked name))
@@ -38,9 +39,11 @@ returns-clause-answered g c =
     let a = c.args in
     let name = a.name.now in
     let found = c.in_ok-found.found in
-    asked-on g.D.Disk (λ v. write_wanted v a.opens.now a.path.now name a.at a.len) (λ v. write_found v a.opens.now a.path.now name a.at a.len)
+    asked-on g.D.Disk (λ v. write_wanted v a.opens.now a.path.now name a.at a.len)
+    (λ v. write_found v a.opens.now a.path.now name a.at a.len)
     (λ v f. asked_to_write v name a.at a.len f) (λ v. write-last v name a.at a.len a.opens.now a.path.now) (number_of found.held)
-    (λ v. IsWritableSo v found name a.at a.len) c.in_ok-found.ensures.answered c.in_ok-found.ensures.can (c.in_ok-ask_to_write.ensures.asked name)
+    (λ v. IsWritableSo v found name a.at a.len) c.in_ok-found.ensures.answered c.in_ok-found.ensures.can
+    (c.in_ok-ask_to_write.ensures.asked name)
 
 pub returns-clause-can : goal.returns-clause-can
 returns-clause-can g c = λ told.

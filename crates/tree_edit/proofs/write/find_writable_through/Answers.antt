@@ -40,7 +40,8 @@ returns-clause-answered g c =
     let found = c.in_ok-found.found in
     asked-on g.D.Disk (λ v. hwrite_in v name a.at a.len a.entry.now.file) (λ v. hwrite_decided v name a.at a.len a.entry.now.file)
     (λ v f. asked_to_write v name a.at a.len f) (λ v. hwrite-last v name a.at a.len a.entry.now.file) (number_of found.held)
-    (λ v. IsWritableSo v found name a.at a.len) c.in_ok-found.ensures.answered c.in_ok-found.ensures.can (c.in_ok-ask_to_write.ensures.asked name)
+    (λ v. IsWritableSo v found name a.at a.len) c.in_ok-found.ensures.answered c.in_ok-found.ensures.can
+    (c.in_ok-ask_to_write.ensures.asked name)
 
 pub returns-clause-can : goal.returns-clause-can
 returns-clause-can g c = λ told.

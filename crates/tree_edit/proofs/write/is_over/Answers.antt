@@ -14,4 +14,5 @@ returns-clause-over c =
     IfOk-weaker c.goes_over.result _ _ (λ over goes view mounts sound n name is.
     over-so view c.args.mounted.now c.args.cluster_bytes c.args.held.now mounts sound n name c.args.stream.now is c.args.at c.args.len over
     (sym c.in_ok-can_edit.ensures ∙ c.if-not-branch.false)
-    (goes view c.args.mounted.now.upcase name (held-with view c.args.held.now n c.args.mounted.now.upcase mounts.case) is)) c.goes_over.ensures
+    (goes view c.args.mounted.now.upcase name (held-with view c.args.held.now n c.args.mounted.now.upcase mounts.case) is))
+    c.goes_over.ensures

@@ -24,11 +24,13 @@ pub returns-in-Some-found-clause-decides : goal.returns-in-Some-found-clause-dec
 returns-in-Some-found-clause-decides c = λ view mounts sound n.
     let stream = c.in-Some-found.stream in
     let found =
-    subst (λ (o : Option FoundStream). FindsToWrite (stream_to_write (read view) c.args.name.now (node_of (read view) (number_of c.args.held)))
+    subst (λ (o : Option FoundStream).
+    FindsToWrite (stream_to_write (read view) c.args.name.now (node_of (read view) (number_of c.args.held)))
     view c.args.held c.args.name.now (Ok o)) c.in-Some-found.is (c.in_ok-found.ensures.found view n mounts.case) in
     let kept =
     ap (kept_from_writing c.args.opens.now) (sym c.number.ensures) ∙ sym c.kept_from_writing.ensures ∙ c.in_default.is in
-    write-decided view c.args.mounted.now c.args.cluster_bytes c.args.held mounts sound n c.args.name.now stream found.0.is c.args.at c.args.len _
+    write-decided view c.args.mounted.now c.args.cluster_bytes c.args.held mounts sound n c.args.name.now stream
+    found.0.is c.args.at c.args.len _
     c.give_back.result (c.give_back.ensures.decides view mounts sound n c.args.name.now found.0.is) c.give_back.ensures.gives
     (IfOk-weaker c.give_back.result _ _ (λ given way. way view mounts sound n c.args.name.now found.0.is) c.give_back.ensures.way) found.0
     (as-so view c.args.held n c.args.name.now c.args.at c.args.len c.args.opens.now (Some stream) found
@@ -37,7 +39,8 @@ returns-in-Some-found-clause-decides c = λ view mounts sound n.
 pub returns-in-None-clause-decides : goal.returns-in-None-clause-decides
 returns-in-None-clause-decides c = λ view mounts sound n.
     let found =
-    subst (λ (o : Option FoundStream). FindsToWrite (stream_to_write (read view) c.args.name.now (node_of (read view) (number_of c.args.held)))
+    subst (λ (o : Option FoundStream).
+    FindsToWrite (stream_to_write (read view) c.args.name.now (node_of (read view) (number_of c.args.held)))
     view c.args.held c.args.name.now (Ok o)) c.in-None.is (c.in_ok-found.ensures.found view n mounts.case) in
     let kept =
     ap (kept_from_writing c.args.opens.now) (sym c.number.ensures) ∙ sym c.kept_from_writing.ensures ∙ c.in_default.is in

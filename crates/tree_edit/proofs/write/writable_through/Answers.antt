@@ -18,7 +18,9 @@ returns-then-is_wide-clause-decides c = λ view mounts sound n.
 pub returns-clause-decides : goal.returns-clause-decides
 returns-clause-decides c = λ view mounts sound n.
     let found = c.in_ok-stream.ensures.found view n mounts.case in
-    write-decided view c.args.mounted.now c.args.cluster_bytes c.args.held mounts sound n c.args.name.now c.in_ok-stream.stream found.0.is c.args.at
+    write-decided view c.args.mounted.now c.args.cluster_bytes c.args.held mounts sound n c.args.name.now
+    c.in_ok-stream.stream found.0.is c.args.at
     c.args.len _ c.give_back.result (c.give_back.ensures.decides view mounts sound n c.args.name.now found.0.is) c.give_back.ensures.gives
     (IfOk-weaker c.give_back.result _ _ (λ given way. way view mounts sound n c.args.name.now found.0.is) c.give_back.ensures.way) found.0
-    (through-so view c.args.held n c.args.name.now c.args.at c.args.len c.in_ok-stream.stream found (sym c.is_wide.ensures ∙ c.if-is_wide.false))
+    (through-so view c.args.held n c.args.name.now c.args.at c.args.len c.in_ok-stream.stream found
+    (sym c.is_wide.ensures ∙ c.if-is_wide.false))

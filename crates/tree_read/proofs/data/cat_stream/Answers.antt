@@ -42,10 +42,12 @@ returns-in_default g c =
     let held = c.args.held.now in
     let v = view g.D.Disk c.args.mft.now in
     record {
-      answered = answers-it _ (λ v. cat_shown (read v) c.args.opens.now c.args.name.now (number_of held)) c.data.result c.data.ensures.found (λ told x so.
+      answered = answers-it _ (λ v. cat_shown (read v) c.args.opens.now c.args.name.now (number_of held))
+          c.data.result c.data.ensures.found (λ told x so.
           let is = c.in-Ok.ensures.found v (c.requires.held told)
           (case-kept v (mounted_of g.D.Disk c.args.mft.now) c.mounted.result.now c.mounted.ensures (c.requires.volume told)) in
           cat-all v held c.args.name.now c.args.opens.now c.in-Ok.found is.0 is.1
-          (ltb-false 65536 c.in-Ok.found.size (sym c.is_too_large.ensures ∙ c.if-is_too_large.false)) (c.in_default.ensures ∙ ap (kept_apart c.args.opens.now) c.number.ensures)
+          (ltb-false 65536 c.in-Ok.found.size (sym c.is_too_large.ensures ∙ c.if-is_too_large.false))
+          (c.in_default.ensures ∙ ap (kept_apart c.args.opens.now) c.number.ensures)
           ∙ ap (λ (y : Answer). Ok y) (sym (so c.args.name.now is.0)));
     }

@@ -9,4 +9,5 @@ returns-in-Ok c = λ view n case.
 
 pub returns-in-Err : goal.returns-in-Err
 returns-in-Err c = λ view n case.
-    opened-refused view c.args.held.now c.args.name.now c.plain_stream.result c.in-Err.refused c.in-Err.is (c.plain_stream.ensures.found view n case)
+    opened-refused view c.args.held.now c.args.name.now c.plain_stream.result c.in-Err.refused c.in-Err.is
+    (c.plain_stream.ensures.found view n case)

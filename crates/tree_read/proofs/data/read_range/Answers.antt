@@ -40,7 +40,8 @@ returns-in_default g c =
     let held = c.args.held.now in
     let v = view g.D.Disk c.args.mft.now in
     record {
-      answered = answers-it _ (λ v. read_shown (read v) c.args.opens.now c.args.name.now c.args.at c.args.len (number_of held)) c.data.result
+      answered = answers-it _ (λ v. read_shown (read v) c.args.opens.now c.args.name.now c.args.at c.args.len (number_of held))
+          c.data.result
           c.data.ensures.found (λ told x so.
           let is = c.in-Ok.ensures.found v (c.requires.held told)
           (case-kept v (mounted_of g.D.Disk c.args.mft.now) c.mounted.result.now c.mounted.ensures (c.requires.volume told)) in

@@ -47,7 +47,8 @@ lines_of-requires-clause-shown g c = λ told.
     (case-kept v (mounted_of g.D.Disk c.args.mft.now) c.mounted.result.now c.mounted.ensures (c.requires.volume told)) in
     let all = shown-directories v sound (number_of held) (has-node v (number_of held) (held-shown v held n))
     (λ e. c.if-number-eq-ROOT.false (c.number.ensures ∙ e)) in
-    subst (All (λ (link : Link). is_hidden (records_of v) link.parent ≡ false)) (sym (c.as_slice.ensures.value ∙ c.in_ok-links.ensures ∙ links))
+    subst (All (λ (link : Link). is_hidden (records_of v) link.parent ≡ false))
+    (sym (c.as_slice.ensures.value ∙ c.in_ok-links.ensures ∙ links))
     (λ k d lt. (all k d lt).shown)
 
 pub returns-in-Ok : goal.returns-in-Ok

@@ -57,7 +57,8 @@ steps-preserved g c =
       is.1.0,
       subst (λ xs. IsPathSoFar v c.args.link.now c.in-Some.up.now.parent (c.steps.left - 1) xs)
           (sym (ap reverse c.in-Ok.ensures ∙ reverse-append c.steps.names.items (c.in-Some.up.now.name ∷ [])))
-          (subst (λ (u : Link). IsPathSoFar v c.args.link.now u.parent (c.steps.left - 1) (u.name ∷ reverse c.steps.names.items)) same on.more),
+          (subst (λ (u : Link). IsPathSoFar v c.args.link.now u.parent (c.steps.left - 1) (u.name ∷ reverse c.steps.names.items))
+          same on.more),
     ))
 
 pub returns : goal.returns

@@ -7,4 +7,5 @@ pub load_file-requires-clause-file : goal.load_file-requires-clause-file
 load_file-requires-clause-file g c = λ told. shown-file (view g.D.Disk c.args.mft.now) c.args.file (c.requires.file told)
 
 pub returns-clause-found : goal.returns-clause-found
-returns-clause-found g c = node-found g.D.Disk _ _ c.args.file c.load_file.result c.requires.volume c.requires.file c.load_file.ensures.found
+returns-clause-found g c =
+    node-found g.D.Disk _ _ c.args.file c.load_file.result c.requires.volume c.requires.file c.load_file.ensures.found

@@ -24,7 +24,8 @@ returns-in-Ok g c = record {
     only = c.in-Ok.ensures.reads;
     counts = c.in-Ok.ensures.faults;
     is = λ told. ap Some c.from_vec-in-Ok.ensures
-        ∙ begin-read (view g.D.Disk c.args.mft.now) c.args.held.now c.args.kind c.args.most c.args.name.now c.in-Some.first c.in-Ok.bytes.items
+        ∙ begin-read (view g.D.Disk c.args.mft.now)
+        c.args.held.now c.args.kind c.args.most c.args.name.now c.in-Some.first c.in-Ok.bytes.items
         c.min-len.result (c.requires.held told) c.in-Some.ensures c.if-first.false c.min-len.ensures c.in-Ok.ensures.read told;
   };
 }

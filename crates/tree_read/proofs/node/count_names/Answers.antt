@@ -22,7 +22,8 @@ loop-place-preserved c =
     let file = c.args.file.now in
     let k = c.loop-place._place in
     let attribute = attribute_of c.in-Some.attribute in
-    let (n, at, here, behind) = AreHeld-at k (attributes_held file) (parts_held file) attribute (attributes_left c.next.new.self) (AreHeld-file file)
+    let (n, at, here, behind) =
+    AreHeld-at k (attributes_held file) (parts_held file) attribute (attributes_left c.next.new.self) (AreHeld-file file)
     (sym c.loop-place.invariant.left ∙ c.in-Some.ensures.steps) in
     let part = part_of n attribute in
     let rest = drop (k + 1) (parts_held file) in

@@ -22,7 +22,8 @@ returns-then-is_of c =
     let file = c.args.file.now in
     let index = c.loop-index.index in
     let a = attribute_of c.in-Some.attribute in
-    let (n, at, here, behind) = AreHeld-at index (attributes_held file) (parts_held file) a (attributes_left c.next.new.self) (AreHeld-file file)
+    let (n, at, here, behind) =
+    AreHeld-at index (attributes_held file) (parts_held file) a (attributes_left c.next.new.self) (AreHeld-file file)
     (sym c.loop-index.invariant.left ∙ c.in-Some.ensures.steps) in
     record {
       part = part_of n a;
@@ -37,12 +38,14 @@ loop-index-preserved c =
     let file = c.args.file.now in
     let index = c.loop-index.index in
     let a = attribute_of c.in-Some.attribute in
-    let (n, at, here, behind) = AreHeld-at index (attributes_held file) (parts_held file) a (attributes_left c.next.new.self) (AreHeld-file file)
+    let (n, at, here, behind) =
+    AreHeld-at index (attributes_held file) (parts_held file) a (attributes_left c.next.new.self) (AreHeld-file file)
     (sym c.loop-index.invariant.left ∙ c.in-Some.ensures.steps) in
     record {
       left = sym behind;
       found = sym (ap (find p) here
-          ∙ find-later p (part_of n a) (drop (index + 1) (parts_held file)) (sym (c.is_of.ensures n) ∙ c.if-is_of.false)) ∙ c.loop-index.invariant.found;
+          ∙ find-later p (part_of n a) (drop (index + 1) (parts_held file)) (sym (c.is_of.ensures n) ∙ c.if-is_of.false))
+          ∙ c.loop-index.invariant.found;
     }
 
 pub returns : goal.returns

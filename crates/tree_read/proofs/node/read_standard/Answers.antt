@@ -9,7 +9,8 @@ returns-clause-times c =
     c.padded_u64-3.ensures c.padded_u64-4.ensures
 
 pub returns-clause-flags : goal.returns-clause-flags
-returns-clause-flags c = flags-read c.standard_value-value.result.now _ c.standard_value-value.ensures _ _ c.padded_u32.ensures c.from.ensures
+returns-clause-flags c =
+    flags-read c.standard_value-value.result.now _ c.standard_value-value.ensures _ _ c.padded_u32.ensures c.from.ensures
 
 pub returns-clause-security : goal.returns-clause-security
 returns-clause-security c = c.security.ensures ∙ ap standard_security c.standard_value-value.ensures

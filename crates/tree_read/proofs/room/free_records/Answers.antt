@@ -7,7 +7,8 @@ use Rattle.tree_read.proofs.room.free_records.Goals.{else-not-is_set, then-not-i
 
 pub overflow_sub-free : goal.overflow_sub-free
 overflow_sub-free c =
-    some-free c.args.records.now c.loop-number.number c.loop-number.free c.loop-number.invariant c.is_set.result c.is_set.ensures (ap not c.if-not-is_set.true)
+    some-free c.args.records.now c.loop-number.number c.loop-number.free c.loop-number.invariant c.is_set.result c.is_set.ensures
+    (ap not c.if-not-is_set.true)
 
 pub loop-number-preserved : goal.loop-number-preserved
 loop-number-preserved c =
@@ -15,9 +16,11 @@ loop-number-preserved c =
     let rest = count_by not (take (c.loop-number.number + 1) flags) in
     elim c.if-not-is_set.branch [
       | then-not-is_set w ↦ ap (λ n. n + rest) w.free-is
-          ∙ counted-free flags c.loop-number.number c.loop-number.free c.loop-number.invariant c.is_set.result c.is_set.ensures (ap not w.if-not-is_set.true)
+          ∙ counted-free flags c.loop-number.number c.loop-number.free c.loop-number.invariant c.is_set.result c.is_set.ensures
+          (ap not w.if-not-is_set.true)
       | else-not-is_set w ↦ ap (λ n. n + rest) w.free-is
-          ∙ counted-taken flags c.loop-number.number c.loop-number.free c.loop-number.invariant c.is_set.result c.is_set.ensures (ap not w.if-not-is_set.false)
+          ∙ counted-taken flags c.loop-number.number c.loop-number.free c.loop-number.invariant c.is_set.result c.is_set.ensures
+          (ap not w.if-not-is_set.false)
     ]
 
 pub returns : goal.returns

@@ -15,7 +15,8 @@ returns-then-not-is_directory g c =
     let held = c.args.held.now in
     record {
       answered = at_once refl (λ told.
-          inl (ls-file (view g.D.Disk c.args.mft.now) held (c.requires.held told) (sym c.is_directory.ensures ∙ c.if-not-is_directory.true)));
+          inl (ls-file (view g.D.Disk c.args.mft.now) held (c.requires.held told)
+          (sym c.is_directory.ensures ∙ c.if-not-is_directory.true)));
     }
 
 pub list_shown-requires : goal.list_shown-requires

@@ -25,9 +25,11 @@ show_node-requires-clause-held g c =
 
 pub returns : goal.returns
 returns g c = record {
-  answered = follows g.D.Disk (λ v. resolve (read v) c.args.path.now) (λ v found. shown_by c.args.what (read v) c.args.opens.now (found_file found))
+  answered = follows g.D.Disk (λ v. resolve (read v) c.args.path.now)
+      (λ v found. shown_by c.args.what (read v) c.args.opens.now (found_file found))
       c.in_ok-reached.reached.found _ c.in_ok-reached.ensures.answered
-      (subst (λ f. Answered g.D.Disk c.resolve.new.mft c.show_node.new.mft (λ v. shown_by c.args.what (read v) c.args.opens.now f) c.show_node.result)
+      (subst (λ f. Answered g.D.Disk c.resolve.new.mft c.show_node.new.mft
+      (λ v. shown_by c.args.what (read v) c.args.opens.now f) c.show_node.result)
       c.in_ok-reached.ensures.number
       c.show_node.ensures.answered);
   last = c.resolve.ensures.last;

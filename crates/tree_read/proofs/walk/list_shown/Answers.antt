@@ -79,12 +79,14 @@ pub links-preserved : goal.links-preserved
 links-preserved g c = record {
   goes = tt;
   ends = tt;
-  counted = let was = c.links.invariant.counted in let short = ap length c.in-Some.ensures.steps.0 in omega (arith, c.in-Some.ensures.steps.1);
+  counted = let was = c.links.invariant.counted in let short = ap length c.in-Some.ensures.steps.0 in
+      omega (arith, c.in-Some.ensures.steps.1);
   listed = tells (both c.links.invariant.listed c.in_ok-line.ensures.found) refl (λ told is.
       let v = view g.D.Disk c.args.mft.now in
       let dir = number_of c.args.dir.now in
       subst (λ lines. AreListed v dir c.list_link.new.above lines (into_iter_items c.next.new.self)) (sym c.in_ok-add_line.ensures)
-      (list-goes v dir c.links.above c.list_link.new.above c.links.lines.items c.in-Some.link (into_iter_items c.next.new.self) c.in_ok-line.line
+      (list-goes v dir c.links.above c.list_link.new.above c.links.lines.items c.in-Some.link
+      (into_iter_items c.next.new.self) c.in_ok-line.line
       (subst (AreListed v dir c.links.above c.links.lines.items) c.in-Some.ensures.steps.0 is.0) is.1.0 is.1.1));
 }
 

@@ -31,7 +31,8 @@ load_below-requires-clause-link g c =
 pub returns-in_err-below-clause-answered : goal.returns-in_err-below-clause-answered
 returns-in_err-below-clause-answered g c =
     rw (handed-on c.from_residual-in_err-below.result c.in_err-below.field-0.0 c.from_residual-in_err-below.ensures.1)
-    (step-unseen g.D.Disk passed (λ link. passed_kind link.child) passed-steps (number_of c.args.dir.now) c.args.name.now c.args.mft.now c.seek.new.mft
+    (step-unseen g.D.Disk passed (λ link. passed_kind link.child) passed-steps
+    (number_of c.args.dir.now) c.args.name.now c.args.mft.now c.seek.new.mft
     c.load_below.new.mft c.in_ok-link.link c.in_err-below.field-0.0 c.in_ok-link.ensures.answered
     (tells c.in_err-below.ensures.found refl (λ told failed. says-failed _ c.in_err-below.field-0.0 failed)))
 
@@ -40,16 +41,20 @@ returns-in_err-passed_below-clause-answered g c =
     rw (handed-on c.from_residual-in_err-passed_below.result (stop.No c.in_err-passed_below.field-0.0)
     c.from_residual-in_err-passed_below.ensures.1)
     (step-seen g.D.Disk passed (λ link. passed_kind link.child) passed-steps (number_of c.args.dir.now) c.args.name.now
-    c.args.mft.now c.seek.new.mft c.load_below.new.mft c.in_ok-link.link (kind_below c.in_ok-below.below) (Err c.in_err-passed_below.field-0.0)
-    (ap (with_no number_of) (sym c.in_err-passed_below.was ∙ c.passed_below.ensures) ∙ passed-loaded c.in_ok-link.link c.in_ok-below.below c.in_ok-below.ensures.number)
+    c.args.mft.now c.seek.new.mft c.load_below.new.mft c.in_ok-link.link (kind_below c.in_ok-below.below)
+    (Err c.in_err-passed_below.field-0.0)
+    (ap (with_no number_of) (sym c.in_err-passed_below.was ∙ c.passed_below.ensures)
+    ∙ passed-loaded c.in_ok-link.link c.in_ok-below.below c.in_ok-below.ensures.number)
     c.in_ok-link.ensures.answered
     (tells c.in_ok-below.ensures.found refl (λ told is. ap Ok is.1.kind)))
 
 pub returns-clause-answered : goal.returns-clause-answered
 returns-clause-answered g c =
     step-seen g.D.Disk passed (λ link. passed_kind link.child) passed-steps (number_of c.args.dir.now) c.args.name.now
-    c.args.mft.now c.seek.new.mft c.load_below.new.mft c.in_ok-link.link (kind_below c.in_ok-below.below) (Ok (number_of c.in_ok-passed_below.field-0))
-    (ap (with_no number_of) (sym c.in_ok-passed_below.was ∙ c.passed_below.ensures) ∙ passed-loaded c.in_ok-link.link c.in_ok-below.below c.in_ok-below.ensures.number)
+    c.args.mft.now c.seek.new.mft c.load_below.new.mft c.in_ok-link.link (kind_below c.in_ok-below.below)
+    (Ok (number_of c.in_ok-passed_below.field-0))
+    (ap (with_no number_of) (sym c.in_ok-passed_below.was ∙ c.passed_below.ensures)
+    ∙ passed-loaded c.in_ok-link.link c.in_ok-below.below c.in_ok-below.ensures.number)
     c.in_ok-link.ensures.answered
     (tells c.in_ok-below.ensures.found refl (λ told is. ap Ok is.1.kind))
 

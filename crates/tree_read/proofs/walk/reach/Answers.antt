@@ -39,22 +39,26 @@ returns-in_err-reached_below-clause-answered g c =
     rw (handed-on c.from_residual-in_err-reached_below.result (stop.No c.in_err-reached_below.field-0.0)
     c.from_residual-in_err-reached_below.ensures.1)
     (step-seen g.D.Disk reached reached_kind reached-steps (number_of c.args.dir.now) c.args.name.now
-    c.args.mft.now c.seek.new.mft c.load_below.new.mft c.in_ok-link.link (kind_below c.in_ok-below.below) (Err c.in_err-reached_below.field-0.0)
-    (ap (with_no found_by) (sym c.in_err-reached_below.was ∙ c.reached_below.ensures) ∙ reached-loaded c.in_ok-link.link c.in_ok-below.below)
+    c.args.mft.now c.seek.new.mft c.load_below.new.mft c.in_ok-link.link (kind_below c.in_ok-below.below)
+    (Err c.in_err-reached_below.field-0.0)
+    (ap (with_no found_by) (sym c.in_err-reached_below.was ∙ c.reached_below.ensures)
+    ∙ reached-loaded c.in_ok-link.link c.in_ok-below.below)
     c.in_ok-link.ensures.answered
     (tells c.in_ok-below.ensures.found refl (λ told is. ap Ok is.1.kind)))
 
 pub returns-clause-answered : goal.returns-clause-answered
 returns-clause-answered g c =
     step-seen g.D.Disk reached reached_kind reached-steps (number_of c.args.dir.now) c.args.name.now
-    c.args.mft.now c.seek.new.mft c.load_below.new.mft c.in_ok-link.link (kind_below c.in_ok-below.below) (Ok (found_by c.in_ok-reached_below.field-0))
+    c.args.mft.now c.seek.new.mft c.load_below.new.mft c.in_ok-link.link (kind_below c.in_ok-below.below)
+    (Ok (found_by c.in_ok-reached_below.field-0))
     (ap (with_no found_by) (sym c.in_ok-reached_below.was ∙ c.reached_below.ensures) ∙ reached-loaded c.in_ok-link.link c.in_ok-below.below)
     c.in_ok-link.ensures.answered
     (tells c.in_ok-below.ensures.found refl (λ told is. ap Ok is.1.kind))
 
 pub returns-clause-number : goal.returns-clause-number
 returns-clause-number g c =
-    reached-held (λ f held. number_of held ≡ f) c.in_ok-link.link c.in_ok-below.below c.in_ok-reached_below.field-0 c.in_ok-below.ensures.number
+    reached-held (λ f held. number_of held ≡ f)
+    c.in_ok-link.link c.in_ok-below.below c.in_ok-reached_below.field-0 c.in_ok-below.ensures.number
     (sym c.reached_below.ensures ∙ c.in_ok-reached_below.was)
 
 pub returns-clause-held : goal.returns-clause-held

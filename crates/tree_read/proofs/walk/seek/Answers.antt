@@ -24,7 +24,8 @@ returns-in-Some-clause-answered g c =
 pub returns-in-Some-clause-among : goal.returns-in-Some-clause-among
 returns-in-Some-clause-among g c = λ told.
     let volume = view g.D.Disk c.args.mft.now in
-    sought-among (volume_fold volume) (directory_links volume (number_of c.args.dir.now)) c.args.name.now c.in_ok-link.field-0 c.in-Some.link
+    sought-among (volume_fold volume) (directory_links volume (number_of c.args.dir.now))
+    c.args.name.now c.in_ok-link.field-0 c.in-Some.link
     (c.in_ok-link.ensures.found told) c.in-Some.is
 
 pub returns-in-None-clause-answered : goal.returns-in-None-clause-answered

@@ -14,14 +14,20 @@ returns-in_default-clause-no c = λ none units spelled.
 pub letters-smaller : goal.letters-smaller
 letters-smaller c =
     let letter = c.in-Some._letter in
-    omega (arith, ap length c.in-Some.ensures.some.1, letter-bytes letter, length-append (letter_text letter) (chars_rest c.next_letter.new.chars))
+    omega (
+      arith,
+      ap length c.in-Some.ensures.some.1,
+      letter-bytes letter,
+      length-append (letter_text letter) (chars_rest c.next_letter.new.chars),
+    )
 
 pub letters-preserved : goal.letters-preserved
 letters-preserved c =
     let front = c.in-Some.ensures.some in
     record {
       onto = λ units spelled.
-          c.letters.invariant.onto (letter_units c.in-Some._letter ++ units) (IsSpelled-front c.in-Some._letter _ _ _ units front.0 front.1 refl spelled);
+          c.letters.invariant.onto (letter_units c.in-Some._letter ++ units)
+          (IsSpelled-front c.in-Some._letter _ _ _ units front.0 front.1 refl spelled);
       back = λ all spelled.
           let more = c.letters.invariant.back all spelled in
           let behind = IsSpelled-behind c.in-Some._letter _ _ more.0 front.0 front.1 more.1 in

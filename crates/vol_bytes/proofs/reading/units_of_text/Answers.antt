@@ -7,7 +7,12 @@ use Rattle.vol_bytes.proofs.reading.units_of_text.Goals as goal
 pub letters-smaller : goal.letters-smaller
 letters-smaller c =
     let letter = c.in-Some-next_letter.letter in
-    omega (arith, ap length c.in-Some-next_letter.ensures.some.1, letter-bytes letter, length-append (letter_text letter) (chars_rest c.next_letter.new.chars))
+    omega (
+      arith,
+      ap length c.in-Some-next_letter.ensures.some.1,
+      letter-bytes letter,
+      length-append (letter_text letter) (chars_rest c.next_letter.new.chars),
+    )
 
 pub letters-preserved : goal.letters-preserved
 letters-preserved c =

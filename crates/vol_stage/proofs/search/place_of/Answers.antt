@@ -6,7 +6,8 @@ use Rattle.vol_stage.proofs.search.place_of.Goals as goal
 
 pub returns : goal.returns
 returns c =
-    let parted = IsPartitionedBy-ltb (λ write. write.sector) c.args.writes.now c.args.sector (IsNonDecreasingBy-rising c.args.writes.now c.requires) in
+    let parted = IsPartitionedBy-ltb (λ write. write.sector) c.args.writes.now c.args.sector
+    (IsNonDecreasingBy-rising c.args.writes.now c.requires) in
     let point =
     IsPartitionPoint-from_clause (λ write. nat_lt write.sector c.args.sector) _ _ c.partition_point.ensures.partitioned parted
     (λ a r q k. search rules) in (

@@ -1,4 +1,5 @@
-use Rattle.volume_format.proofs.NewVolumes.{attributes, case_table, clean, cluster_bits, extents, limits, links, lists, mirror, mirror_place, owners, record_bits, references, shape, version}
+use Rattle.volume_format.proofs.NewVolumes.{attributes, case_table, clean, cluster_bits, extents, limits, links, lists, mirror}
+use Rattle.volume_format.proofs.NewVolumes.{mirror_place, owners, record_bits, references, shape, version}
 use Rattle.volume_format.proofs.Soundness.{sound}
 use Rattle.volume_format.proofs.laws.planned_laws.Goals as goal
 

@@ -4,7 +4,8 @@ use Rattle.ntfs_def.specs.declared.index.NodeForm.TheVariants.{Names}
 use Rattle.ntfs_def.specs.Node.{first_entry}
 use Rattle.index_node.specs.LayOut.{AreEntries, HoldsPieces, room_len, total_len}
 use Rattle.volume_format.specs.RootIndex.{root_entries}
-use Rattle.volume_format.proofs.NodeBlockLaws.{AreEntries-root, HasArray-node, IsNodeBlock-blank, IsNodeBlock-laid, IsRootRecord-sealed, first-is, header-right, room_len-is, sequence_number-laid}
+use Rattle.volume_format.proofs.NodeBlockLaws.{AreEntries-root, HasArray-node, IsNodeBlock-blank, IsNodeBlock-laid, IsRootRecord-sealed}
+use Rattle.volume_format.proofs.NodeBlockLaws.{first-is, header-right, room_len-is, sequence_number-laid}
 use Rattle.volume_format.proofs.root.fill_root_node.Goals as goal
 
 pub lay_out-requires-clause-header : goal.lay_out-requires-clause-header
@@ -31,7 +32,8 @@ seal-requires c =
 
 pub returns-clause-number : goal.returns-clause-number
 returns-clause-number c =
-    sequence_number-laid c.blank_node.new.block c.lay_out.new.node c.seal.new.block c.blank_node.ensures c.in-Ok.ensures.header c.seal.ensures.seals
+    sequence_number-laid c.blank_node.new.block c.lay_out.new.node c.seal.new.block c.blank_node.ensures
+    c.in-Ok.ensures.header c.seal.ensures.seals
 
 pub returns-clause-root : goal.returns-clause-root
 returns-clause-root c =
@@ -41,4 +43,5 @@ returns-clause-root c =
     let laid = IsNodeBlock-laid c.blank_node.new.block c.lay_out.new.node (total_len root_entries) blank c.in-Ok.ensures.header
     (c.in-Ok.ensures.end ∙ ap (λ es. first_entry c.blank_node.new.block + total_len es) entries) in
     IsRootRecord-sealed c.lay_out.new.node c.seal.new.block laid c.seal.ensures.seals c.in-Ok.ensures.flag
-    (subst (λ es. HoldsPieces c.lay_out.new.node 0x40 es) entries (subst (λ at. HoldsPieces c.lay_out.new.node at c.deref.result.now) first c.in-Ok.ensures.bytes))
+    (subst (λ es. HoldsPieces c.lay_out.new.node 0x40 es) entries
+    (subst (λ at. HoldsPieces c.lay_out.new.node at c.deref.result.now) first c.in-Ok.ensures.bytes))

@@ -7,7 +7,8 @@ pub seal-requires : goal.seal-requires
 seal-requires c = HasArray-shape _ _ c.in_ok-fill_record.ensures.shape
 
 pub returns : goal.returns
-returns c = IsStoredRecord-sealed c.args.n (record_in_list (record_list c.args.places.now) c.args.n) _ _ c.in_ok-fill_record.ensures c.seal.ensures.seals
+returns c = IsStoredRecord-sealed c.args.n (record_in_list (record_list c.args.places.now) c.args.n)
+    _ _ c.in_ok-fill_record.ensures c.seal.ensures.seals
 
 pub returns-then-not-is_planned : goal.returns-then-not-is_planned
 returns-then-not-is_planned c =

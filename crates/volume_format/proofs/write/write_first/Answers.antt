@@ -15,7 +15,8 @@ returns-clause-stand g c told =
     let three = c.in_ok-next-3.ensures in
     let told_one : IsTold (g.D.Disk.now c.write_item.new.disk) = one.keeps.told ∙ told in
     let told_two : IsTold (g.D.Disk.now c.write_item-2.new.disk) = two.keeps.told ∙ told_one in
-    let written : ThreeWritten p (disk c.write_item.new.disk) (disk c.write_item-2.new.disk) (disk c.write_item-3.new.disk) 0 c.in_ok-next.next c.in_ok-next-2.next boot_len table_len table_bits_len
+    let written : ThreeWritten p (disk c.write_item.new.disk) (disk c.write_item-2.new.disk)
+    (disk c.write_item-3.new.disk) 0 c.in_ok-next.next c.in_ok-next-2.next boot_len table_len table_bits_len
     (slice_index c.args.boot.now) (slice_index c.args.table.now) record_bits_byte = record {
       first = one.stands told;
       second = two.stands told_one;

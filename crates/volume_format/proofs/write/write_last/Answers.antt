@@ -3,7 +3,8 @@ use Rattle.std.specs.Prelude.{slice_index}
 use Rattle.vol_disk.specs.Contents.{IsTold, sector_in}
 use Rattle.volume_format.specs.Items.{case_byte, security_byte}
 use Rattle.volume_format.specs.Plan.{Plan, case_at, case_len, items_end, node_at, node_len, security_at, security_len}
-use Rattle.volume_format.proofs.Kept.{SameOutsideClusters-twice, SameOutsideClusters-wider, ThreeWritten, first-stands, second-stands, third-stands}
+use Rattle.volume_format.proofs.Kept.{SameOutsideClusters-twice, SameOutsideClusters-wider, ThreeWritten}
+use Rattle.volume_format.proofs.Kept.{first-stands, second-stands, third-stands}
 use Rattle.volume_format.proofs.write.write_last.Goals as goal
 
 pub returns-clause-stand : goal.returns-clause-stand
@@ -15,7 +16,8 @@ returns-clause-stand g c told =
     let three = c.in_ok-write_item.ensures in
     let told_one : IsTold (g.D.Disk.now c.write_item.new.disk) = one.keeps.told ∙ told in
     let told_two : IsTold (g.D.Disk.now c.write_item-2.new.disk) = two.keeps.told ∙ told_one in
-    let written : ThreeWritten p (disk c.write_item.new.disk) (disk c.write_item-2.new.disk) (disk c.write_item-3.new.disk) c.args.at c.in_ok-next.next c.in_ok-next-2.next case_len security_len node_len
+    let written : ThreeWritten p (disk c.write_item.new.disk) (disk c.write_item-2.new.disk)
+    (disk c.write_item-3.new.disk) c.args.at c.in_ok-next.next c.in_ok-next-2.next case_len security_len node_len
     case_byte security_byte (slice_index c.args.root.now) = record {
       first = one.stands told;
       second = two.stands told_one;

@@ -4,7 +4,8 @@ use Rattle.vol_disk.specs.Contents.{IsTold, sector_in}
 use Rattle.volume_format.specs.Items.{log_byte, ones_byte}
 use Rattle.volume_format.specs.Plan.{Plan, bits_at, bits_len, case_at, log_at, log_len, mirror_at, mirror_len}
 use Rattle.volume_format.specs.Written.{Stands}
-use Rattle.volume_format.proofs.Kept.{SameOutsideClusters-twice, SameOutsideClusters-wider, ThreeWritten, first-stands, second-stands, third-stands}
+use Rattle.volume_format.proofs.Kept.{SameOutsideClusters-twice, SameOutsideClusters-wider, ThreeWritten}
+use Rattle.volume_format.proofs.Kept.{first-stands, second-stands, third-stands}
 use Rattle.volume_format.proofs.write.write_next.Goals as goal
 
 pub returns-clause-stand : goal.returns-clause-stand
@@ -16,7 +17,8 @@ returns-clause-stand g c told =
     let three = c.in_ok-next-3.ensures in
     let told_one : IsTold (g.D.Disk.now c.write_item.new.disk) = one.keeps.told ∙ told in
     let told_two : IsTold (g.D.Disk.now c.write_item-2.new.disk) = two.keeps.told ∙ told_one in
-    let written : ThreeWritten p (disk c.write_item.new.disk) (disk c.write_item-2.new.disk) (disk c.write_item-3.new.disk) c.args.at c.in_ok-next.next c.in_ok-next-2.next mirror_len log_len c.bits_len.result
+    let written : ThreeWritten p (disk c.write_item.new.disk) (disk c.write_item-2.new.disk)
+    (disk c.write_item-3.new.disk) c.args.at c.in_ok-next.next c.in_ok-next-2.next mirror_len log_len c.bits_len.result
     (slice_index c.args.table.now) log_byte (ones_byte c.items_end.result) = record {
       first = one.stands told;
       second = two.stands told_one;
@@ -31,7 +33,8 @@ returns-clause-stand g c told =
       log = second-stands _ _ _ _ _ _ _ _ _ _ _ _ _ written (log_at p) (omega (arith, c.requires.place));
       cluster_bits =
           let here = third-stands _ _ _ _ _ _ _ _ _ _ _ _ _ written (bits_at p) (omega (arith, c.requires.place)) in
-          let len = subst (λ n. Stands (disk c.write_item-3.new.disk) p (bits_at p) n (ones_byte c.items_end.result)) c.bits_len.ensures.len here in
+          let len = subst (λ n. Stands (disk c.write_item-3.new.disk) p (bits_at p) n (ones_byte c.items_end.result))
+          c.bits_len.ensures.len here in
           subst (λ n. Stands (disk c.write_item-3.new.disk) p (bits_at p) (bits_len p) (ones_byte n)) c.items_end.ensures.at len;
     }
 

@@ -10,7 +10,8 @@ directory_of note = note.directory
 pub returns : goal.returns
 returns c = record {
   same = c.sort_by_key.ensures.permutation;
-  stable = stable-same _ _ (c.sort_by_key.ensures.stable directory_of (answers_always _ (λ a r. r ≡ directory_of a.0.now) _ (λ f a r q k. search rules)));
+  stable = stable-same _ _
+      (c.sort_by_key.ensures.stable directory_of (answers_always _ (λ a r. r ≡ directory_of a.0.now) _ (λ f a r q k. search rules)));
   wanted = refl;
 }
 

@@ -13,7 +13,8 @@ returns-clause-made c =
     let same = sym c.deref.ensures.value in
     let attr = c.deref.result.now in
     IsNewBase-put free.number free.sequence c.args.dir c.args.standard.now c.lay_record.new.block attr c.put_first.new.block
-    (subst (λ (f : ℕ). IsEmptyRecord free.number (record { sequence = free.sequence; links = 0; flags = f; base = 0 }) c.lay_record.new.block)
+    (subst (λ (f : ℕ). IsEmptyRecord free.number
+    (record { sequence = free.sequence; links = 0; flags = f; base = 0 }) c.lay_record.new.block)
     c.flags_of.ensures c.lay_record.ensures)
     (subst IsOneAttribute same c.in_ok-attr.ensures.one)
     (subst (λ b. IsPartBytes b STANDARD_INFORMATION [] 0 (Value c.args.standard.now)) same c.in_ok-attr.ensures.part)

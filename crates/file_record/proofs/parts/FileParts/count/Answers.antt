@@ -15,7 +15,8 @@ loop-held-preserved c =
     let more = length-more c.deref-held-items.result.now c.loop-held.held-index one c.loop-held-test.true in
     record {
       total = ap (λ n. n + one.count) c.loop-held.invariant.total
-          ∙ ap (λ held. length (flat_map attributes_in (take c.loop-held.held-index c.deref-held-items.result.now)) + held.count) c.held-item.is
+          ∙ ap (λ held. length (flat_map attributes_in (take c.loop-held.held-index c.deref-held-items.result.now)) + held.count)
+          c.held-item.is
           ∙ sym more;
       few = omega (arith, Held-few one);
     }

@@ -31,11 +31,13 @@ returns-clause-made g c told apart low =
     let n = c.in_ok-free.free.number in
     let kept = view-kept g' old c.next_free.new.mft _ c.in_ok-free.ensures.reads in
     let staged = subst (λ (m : ℕ). IsApart (view g' old).layout → 1024 * m + 1024 ≤ (view g' old).layout.initialized
-    → (stored : List ℕ) × Seals one.block stored × ReplacesBlock (view g' old) (view g' c.stage_taken.new.mft) m stored) c.in_ok-base.ensures.number
+    → (stored : List ℕ) × Seals one.block stored × ReplacesBlock (view g' old) (view g' c.stage_taken.new.mft) m stored)
+    c.in_ok-base.ensures.number
     (subst (λ (before : VolumeView). IsApart before.layout → 1024 * one.number + 1024 ≤ before.layout.initialized
     → (stored : List ℕ) × Seals one.block stored × ReplacesBlock before (view g' c.stage_taken.new.mft) one.number stored) kept
     c.in_ok-stage_taken.ensures.replaces) apart low in
-    creates-base (view g' old) (view g' c.stage_taken.new.mft) n c.in_ok-free.free.sequence c.args.dir c.args.standard.now one.block staged.0
+    creates-base (view g' old) (view g' c.stage_taken.new.mft)
+    n c.in_ok-free.free.sequence c.args.dir c.args.standard.now one.block staged.0
     c.in_ok-base.ensures.made staged.1 staged.2 (c.in_ok-free.ensures.sequence told)
 
 pub returns-clause-held : goal.returns-clause-held
@@ -46,13 +48,16 @@ returns-clause-held g c told apart low none =
     let n = c.in_ok-free.free.number in
     let kept = view-kept g' old c.next_free.new.mft _ c.in_ok-free.ensures.reads in
     let staged = subst (λ (m : ℕ). IsApart (view g' old).layout → 1024 * m + 1024 ≤ (view g' old).layout.initialized
-    → (stored : List ℕ) × Seals one.block stored × ReplacesBlock (view g' old) (view g' c.stage_taken.new.mft) m stored) c.in_ok-base.ensures.number
+    → (stored : List ℕ) × Seals one.block stored × ReplacesBlock (view g' old) (view g' c.stage_taken.new.mft) m stored)
+    c.in_ok-base.ensures.number
     (subst (λ (before : VolumeView). IsApart before.layout → 1024 * one.number + 1024 ≤ before.layout.initialized
     → (stored : List ℕ) × Seals one.block stored × ReplacesBlock before (view g' c.stage_taken.new.mft) one.number stored) kept
     c.in_ok-stage_taken.ensures.replaces) apart low in
-    whole-created (view g' old) (view g' c.stage_taken.new.mft) n c.in_ok-free.free.sequence c.args.dir c.args.standard.now one.block staged.0
+    whole-created (view g' old) (view g' c.stage_taken.new.mft)
+    n c.in_ok-free.free.sequence c.args.dir c.args.standard.now one.block staged.0
     c.in_ok-base.ensures.made staged.1 staged.2 told c.in_ok-free.ensures.inside _ one
-    (c.push_reserved.ensures.items ∙ ap (λ (xs : List Held). xs ++ one ∷ []) c.in_ok-held.ensures.items) c.in_ok-base.ensures.number refl refl none
+    (c.push_reserved.ensures.items ∙ ap (λ (xs : List Held). xs ++ one ∷ []) c.in_ok-held.ensures.items)
+    c.in_ok-base.ensures.number refl refl none
 
 pub returns-clause-new : goal.returns-clause-new
 returns-clause-new g c =
@@ -70,8 +75,10 @@ returns-clause-stages g c =
     let old = c.args.mft.now in
     let kept = view-kept g' old c.next_free.new.mft _ c.in_ok-free.ensures.reads in
     stages-read g' old c.next_free.new.mft c.stage_taken.new.mft 2 c.in_ok-free.ensures.reads c.in_ok-free.ensures.faults _ 4
-    (subst (λ (m : ℕ). ReadsAndStages g' (record_places (view g' old).layout m) 4 0 c.next_free.new.mft c.stage_taken.new.mft) c.in_ok-base.ensures.number
-    (subst (λ (v : VolumeView). ReadsAndStages g' (record_places v.layout c.in_ok-base.base.number) 4 0 c.next_free.new.mft c.stage_taken.new.mft) kept
+    (subst (λ (m : ℕ). ReadsAndStages g' (record_places (view g' old).layout m) 4 0 c.next_free.new.mft c.stage_taken.new.mft)
+    c.in_ok-base.ensures.number
+    (subst (λ (v : VolumeView). ReadsAndStages g'
+    (record_places v.layout c.in_ok-base.base.number) 4 0 c.next_free.new.mft c.stage_taken.new.mft) kept
     c.in_ok-stage_taken.ensures.stages))
 
 pub returns-in_err-free-clause-kept : goal.returns-in_err-free-clause-kept
@@ -82,5 +89,6 @@ returns-in_err-base-clause-kept g c = on-err _ (reserves-read g.D.Disk c.args.mf
 
 pub returns-in_err-stage_taken-clause-kept : goal.returns-in_err-stage_taken-clause-kept
 returns-in_err-stage_taken-clause-kept g c =
-    on-err _ (reserves-both g.D.Disk c.args.mft.now c.next_free.new.mft 2 c.in_ok-free.ensures.reads c.stage_taken.new.mft c.in_ok-free.ensures.faults
+    on-err _ (reserves-both g.D.Disk c.args.mft.now c.next_free.new.mft 2 c.in_ok-free.ensures.reads c.stage_taken.new.mft
+    c.in_ok-free.ensures.faults
     c.in_err-stage_taken.ensures.kept)

@@ -32,13 +32,15 @@ returns-in-Ok-clause-held g c told apart whole =
     let none = there-held file c.args.place one (λ held. attributes held.block ≡ []) c.requires.there c.index.ensures c.requires.empty in
     held-there file c.args.place one (λ held. 1024 * held.number + 1024 ≤ old.layout.initialized → IsWholeFile new _)
     c.requires.there c.index.ensures
-    (λ low. whole-freed old new file _ c.args.place one told whole c.requires.there c.index.ensures none (c.in-Ok.ensures.freed apart low) refl
+    (λ low. whole-freed old new file _ c.args.place one told whole c.requires.there c.index.ensures none
+    (c.in-Ok.ensures.freed apart low) refl
     c.remove.ensures.items)
 
 pub returns-in-Ok-clause-stages : goal.returns-in-Ok-clause-stages
 returns-in-Ok-clause-stages g c =
     held-there c.args.self.now c.args.place c.index.result.now
-    (λ held. ReadsAndStages g.D.Disk (record_places (view g.D.Disk c.args.mft.now).layout held.number) 4 2 c.args.mft.now c.free_record.new.self)
+    (λ held. ReadsAndStages g.D.Disk (record_places (view g.D.Disk c.args.mft.now).layout held.number)
+    4 2 c.args.mft.now c.free_record.new.self)
     c.requires.there c.index.ensures c.in-Ok.ensures.stages
 
 pub returns-in-Err-clause-err : goal.returns-in-Err-clause-err
@@ -47,7 +49,8 @@ returns-in-Err-clause-err g c = read-not_freed c.in-Err.no c.not_freed.result c.
 pub returns-in-Err-clause-faults : goal.returns-in-Err-clause-faults
 returns-in-Err-clause-faults g c told whole =
     let old = view g.D.Disk c.args.mft.now in
-    faults-not_freed old c.index.result.now.number (faults_of g.D.Disk c.args.mft.now) (faults_of g.D.Disk c.free_record.new.self) c.in-Err.no
+    faults-not_freed old c.index.result.now.number (faults_of g.D.Disk c.args.mft.now)
+    (faults_of g.D.Disk c.free_record.new.self) c.in-Err.no
     c.not_freed.result c.not_freed.ensures.memory c.not_freed.ensures.device c.in-Err.ensures.err c.in-Err.ensures.faults told
     (sealed-held old c.args.self.now c.args.place c.index.result.now whole c.requires.there c.index.ensures)
 
@@ -55,7 +58,8 @@ pub returns-in-Ok-clause-was : goal.returns-in-Ok-clause-was
 returns-in-Ok-clause-was g c told whole =
     let file = c.args.self.now in
     let one = c.index.result.now in
-    held-there file c.args.place one (λ held. IsBareExtension (view g.D.Disk c.args.mft.now) (file_number file) held.number) c.requires.there
+    held-there file c.args.place one (λ held. IsBareExtension (view g.D.Disk c.args.mft.now) (file_number file) held.number)
+    c.requires.there
     c.index.ensures (bare-held (view g.D.Disk c.args.mft.now) file c.args.place one whole c.requires.there c.index.ensures
     (there-held file c.args.place one (λ held. attributes held.block ≡ []) c.requires.there c.index.ensures c.requires.empty)
     (there-held file c.args.place one (λ held. held.number ≢ file_number file) c.requires.there c.index.ensures c.requires.extension))
@@ -64,7 +68,8 @@ pub returns-in-Err-clause-was : goal.returns-in-Err-clause-was
 returns-in-Err-clause-was g c told whole =
     let file = c.args.self.now in
     let one = c.index.result.now in
-    held-there file c.args.place one (λ held. IsBareExtension (view g.D.Disk c.args.mft.now) (file_number file) held.number) c.requires.there
+    held-there file c.args.place one (λ held. IsBareExtension (view g.D.Disk c.args.mft.now) (file_number file) held.number)
+    c.requires.there
     c.index.ensures (bare-held (view g.D.Disk c.args.mft.now) file c.args.place one whole c.requires.there c.index.ensures
     (there-held file c.args.place one (λ held. attributes held.block ≡ []) c.requires.there c.index.ensures c.requires.empty)
     (there-held file c.args.place one (λ held. held.number ≢ file_number file) c.requires.there c.index.ensures c.requires.extension))

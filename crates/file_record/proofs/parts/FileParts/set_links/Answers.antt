@@ -26,7 +26,8 @@ returns-clause-written g c =
     let base : one.number ≡ file_number file = ap (λ (h : Held). h.number) is ∙ c.in-Some.ensures.base one in
     let weaker : StagesHeld view' (view g.D.Disk c.stage.new.mft) now.number now.block → IsTrue view'.told → IsApart view'.layout
     → IsWholeFile view' file → HoldsBase file → 1024 * file_number file + 1024 ≤ view'.layout.initialized
-    → (stored : List ℕ) × CountsLinks view' (view g.D.Disk c.stage.new.mft) (file_number file) stored c.args.links = λ staged told apart whole held low.
+    → (stored : List ℕ) × CountsLinks view' (view g.D.Disk c.stage.new.mft) (file_number file) stored c.args.links =
+    λ staged told apart whole held low.
     let small = number-inside view' file c.in-Some.place one whole is c.in-Some.ensures.inside in
     let w = staged (omega (arith, small, number)) apart (omega (arith, low, number, base)) in (
       w.0,

@@ -21,7 +21,8 @@ pub set_sizes-requires-clause-extent : goal.set_sizes-requires-clause-extent
 set_sizes-requires-clause-extent g c =
     let place = c.place_of-place.result in
     let one = c.index_mut-held.result.now in
-    let within = within-held c.args.self.now.held.items place.record place.attribute one c.index_mut-held.ensures.value c.place_of-place.ensures.attribute in
+    let within = within-held c.args.self.now.held.items place.record place.attribute one c.index_mut-held.ensures.value
+    c.place_of-place.ensures.attribute in
     extent-there c.args.self.now.held.items place.record place.attribute c.args.i one c.index_mut-held.ensures.value
     c.place_of-place.ensures.record c.place_of-place.ensures.place within c.requires.extent
 
@@ -32,20 +33,23 @@ returns-clause-written g c =
     let place = c.place_of-place.result in
     let one = c.index_mut-held.result.now in
     let now = c.set_sizes.new.self in
-    let within = within-held c.args.self.now.held.items place.record place.attribute one c.index_mut-held.ensures.value c.place_of-place.ensures.attribute in
+    let within = within-held c.args.self.now.held.items place.record place.attribute one c.index_mut-held.ensures.value
+    c.place_of-place.ensures.attribute in
     let read = part-held c.args.self.now.held.items place.record place.attribute c.args.i one c.index_mut-held.ensures.value
     c.place_of-place.ensures.record c.place_of-place.ensures.place within in
     let weaker : StagesHeld view' (view g.D.Disk c.stage.new.mft) now.number now.block → IsTrue view'.told → IsApart view'.layout
     → IsWholeFile view' c.args.self.now → PartHeld c.args.self.now c.args.i (λ part. 1024 * part.holder + 1024 ≤ view'.layout.initialized
     → WritesSizes view' (view g.D.Disk c.stage.new.mft) part c.args.real c.args.initialized) = λ staged told apart whole.
-    subst (λ o. IsSomeAnd o (λ part. 1024 * part.holder + 1024 ≤ view'.layout.initialized → WritesSizes view' (view g.D.Disk c.stage.new.mft) part c.args.real c.args.initialized))
+    subst (λ o. IsSomeAnd o (λ part. 1024 * part.holder + 1024 ≤ view'.layout.initialized
+    → WritesSizes view' (view g.D.Disk c.stage.new.mft) part c.args.real c.args.initialized))
     (sym read) (λ low.
     let small = number-inside view' c.args.self.now place.record one whole c.index_mut-held.ensures.value c.place_of-place.ensures.record in
     let number = c.set_sizes.ensures.number in
     let w = staged (omega (arith, small, number)) apart (omega (arith, low, number)) in
     sizes-written view' (view g.D.Disk c.stage.new.mft) c.args.self.now place.record place.attribute one now w.0
     told whole c.index_mut-held.ensures.value c.place_of-place.ensures.record number within w.1
-    (subst (λ n. ReplacesBlock view' (view g.D.Disk c.stage.new.mft) n w.0) number w.2) c.args.real c.args.initialized c.set_sizes.ensures.set
+    (subst (λ n. ReplacesBlock view' (view g.D.Disk c.stage.new.mft) n w.0) number w.2)
+    c.args.real c.args.initialized c.set_sizes.ensures.set
     (extent-there c.args.self.now.held.items place.record place.attribute c.args.i one c.index_mut-held.ensures.value
     c.place_of-place.ensures.record c.place_of-place.ensures.place within c.requires.extent)) in
     on_ok_weaker _ weaker c.stage.ensures.staged
@@ -56,7 +60,8 @@ returns-clause-held g c =
     let place = c.place_of-place.result in
     let one = c.index_mut-held.result.now in
     let now = c.set_sizes.new.self in
-    let within = within-held c.args.self.now.held.items place.record place.attribute one c.index_mut-held.ensures.value c.place_of-place.ensures.attribute in
+    let within = within-held c.args.self.now.held.items place.record place.attribute one c.index_mut-held.ensures.value
+    c.place_of-place.ensures.attribute in
     let read = part-held c.args.self.now.held.items place.record place.attribute c.args.i one c.index_mut-held.ensures.value
     c.place_of-place.ensures.record c.place_of-place.ensures.place within in
     let weaker : StagesHeld view' (view g.D.Disk c.stage.new.mft) now.number now.block → IsTrue view'.told → IsApart view'.layout
@@ -79,9 +84,12 @@ returns-clause-stages g c =
     let place = c.place_of-place.result in
     let one = c.index_mut-held.result.now in
     let read = part-held c.args.self.now.held.items place.record place.attribute c.args.i one c.index_mut-held.ensures.value
-    c.place_of-place.ensures.record c.place_of-place.ensures.place (within-held c.args.self.now.held.items place.record place.attribute one c.index_mut-held.ensures.value c.place_of-place.ensures.attribute) in
+    c.place_of-place.ensures.record c.place_of-place.ensures.place
+    (within-held c.args.self.now.held.items place.record place.attribute one c.index_mut-held.ensures.value
+    c.place_of-place.ensures.attribute) in
     let weaker : MftStages g.D.Disk (record_places layout now.number) 4 c.args.mft.now c.stage.new.mft
-    → PartHeld c.args.self.now c.args.i (λ part. MftStages g.D.Disk (record_places layout part.holder) 4 c.args.mft.now c.stage.new.mft) = λ stages.
+    → PartHeld c.args.self.now c.args.i (λ part. MftStages g.D.Disk (record_places layout part.holder) 4 c.args.mft.now c.stage.new.mft) =
+    λ stages.
     subst (λ o. IsSomeAnd o (λ part. MftStages g.D.Disk (record_places layout part.holder) 4 c.args.mft.now c.stage.new.mft)) (sym read)
     (subst (λ n. MftStages g.D.Disk (record_places layout n) 4 c.args.mft.now c.stage.new.mft) c.set_sizes.ensures.number stages) in
     on_ok_weaker _ weaker c.stage.ensures.stages

@@ -23,7 +23,8 @@ use Rattle.file_record.proofs.parts.FileParts.take_extension.Goals as goal
 pub returns-clause-least : goal.returns-clause-least
 returns-clause-least g c =
     inserted-held c.args.self.now c.hold_at.new.self _ c.place_for-place.result c.extension-held.result
-    (λ held. IsLeastFree (mounted_of g.D.Disk c.args.mft.now).records held.number) c.reserve.ensures.items c.hold_at.ensures.held c.place_for-place.ensures.inside
+    (λ held. IsLeastFree (mounted_of g.D.Disk c.args.mft.now).records held.number)
+    c.reserve.ensures.items c.hold_at.ensures.held c.place_for-place.ensures.inside
     (subst (IsLeastFree (mounted_of g.D.Disk c.args.mft.now).records) (sym c.extension-held.ensures.number) c.in_ok-free.ensures.least)
 
 pub returns-clause-bits : goal.returns-clause-bits
@@ -54,7 +55,8 @@ returns-clause-stages g c =
     (λ held. ReadsAndStages g' (record_places (view g' old).layout held.number) 4 2 old c.stage_taken.new.mft)
     c.reserve.ensures.items c.hold_at.ensures.held c.place_for-place.ensures.inside
     (stages-read g' old c.next_free.new.mft c.stage_taken.new.mft 2 c.in_ok-free.ensures.reads c.in_ok-free.ensures.faults _ 4
-    (subst (λ (v : VolumeView). ReadsAndStages g' (record_places v.layout c.extension-held.result.number) 4 0 c.next_free.new.mft c.stage_taken.new.mft) kept
+    (subst (λ (v : VolumeView). ReadsAndStages g'
+    (record_places v.layout c.extension-held.result.number) 4 0 c.next_free.new.mft c.stage_taken.new.mft) kept
     c.in_ok-stage_taken.ensures.stages))
 
 pub returns-clause-taken : goal.returns-clause-taken
@@ -77,7 +79,8 @@ returns-clause-taken g c told apart whole some =
     (λ low. let w = staged low in
     comes-empty (view g' old) (view g' c.stage_taken.new.mft) held.number c.in_ok-free.free.sequence c.base_reference-base.result
     (reference_of (view g' old) (file_number file)) held.block w.0 c.extension-held.ensures.laid names w.1 w.2
-    (c.in_ok-free.ensures.sequence told ∙ ap (λ m. sequence_at_first (stored_sequence ((view g' old).block m))) (sym c.extension-held.ensures.number)))
+    (c.in_ok-free.ensures.sequence told
+    ∙ ap (λ m. sequence_at_first (stored_sequence ((view g' old).block m))) (sym c.extension-held.ensures.number)))
 
 pub returns-clause-held : goal.returns-clause-held
 returns-clause-held g c told apart whole some =
@@ -115,7 +118,8 @@ returns-in_err-reserve-clause-kept g c = on-err _ (reserves-read g.D.Disk c.args
 
 pub returns-in_err-stage_taken-clause-kept : goal.returns-in_err-stage_taken-clause-kept
 returns-in_err-stage_taken-clause-kept g c =
-    on-err _ (reserves-both g.D.Disk c.args.mft.now c.next_free.new.mft 2 c.in_ok-free.ensures.reads c.stage_taken.new.mft c.in_ok-free.ensures.faults
+    on-err _ (reserves-both g.D.Disk c.args.mft.now c.next_free.new.mft 2 c.in_ok-free.ensures.reads c.stage_taken.new.mft
+    c.in_ok-free.ensures.faults
     c.in_err-stage_taken.ensures.kept)
 
 pub stage_taken-requires-clause-mirror : goal.stage_taken-requires-clause-mirror

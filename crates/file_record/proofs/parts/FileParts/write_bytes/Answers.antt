@@ -20,7 +20,8 @@ pub write_value-requires-clause-inside : goal.write_value-requires-clause-inside
 write_value-requires-clause-inside g c =
     let place = c.place_of-place.result in
     let one = c.index_mut-held.result.now in
-    let within = within-held c.args.self.now.held.items place.record place.attribute one c.index_mut-held.ensures.value c.place_of-place.ensures.attribute in
+    let within = within-held c.args.self.now.held.items place.record place.attribute one c.index_mut-held.ensures.value
+    c.place_of-place.ensures.attribute in
     holds-there c.args.self.now.held.items place.record place.attribute c.args.i one c.index_mut-held.ensures.value
     c.place_of-place.ensures.record c.place_of-place.ensures.place within c.args.at (length c.args.from.now) c.requires.inside
 
@@ -31,20 +32,23 @@ returns-clause-written g c =
     let place = c.place_of-place.result in
     let one = c.index_mut-held.result.now in
     let now = c.write_value.new.self in
-    let within = within-held c.args.self.now.held.items place.record place.attribute one c.index_mut-held.ensures.value c.place_of-place.ensures.attribute in
+    let within = within-held c.args.self.now.held.items place.record place.attribute one c.index_mut-held.ensures.value
+    c.place_of-place.ensures.attribute in
     let read = part-held c.args.self.now.held.items place.record place.attribute c.args.i one c.index_mut-held.ensures.value
     c.place_of-place.ensures.record c.place_of-place.ensures.place within in
     let weaker : StagesHeld view' (view g.D.Disk c.stage.new.mft) now.number now.block → IsTrue view'.told → IsApart view'.layout
     → IsWholeFile view' c.args.self.now → PartHeld c.args.self.now c.args.i (λ part. 1024 * part.holder + 1024 ≤ view'.layout.initialized
     → WritesBytes view' (view g.D.Disk c.stage.new.mft) part c.args.at c.args.from.now) = λ staged told apart whole.
-    subst (λ o. IsSomeAnd o (λ part. 1024 * part.holder + 1024 ≤ view'.layout.initialized → WritesBytes view' (view g.D.Disk c.stage.new.mft) part c.args.at c.args.from.now))
+    subst (λ o. IsSomeAnd o (λ part. 1024 * part.holder + 1024 ≤ view'.layout.initialized
+    → WritesBytes view' (view g.D.Disk c.stage.new.mft) part c.args.at c.args.from.now))
     (sym read) (λ low.
     let small = number-inside view' c.args.self.now place.record one whole c.index_mut-held.ensures.value c.place_of-place.ensures.record in
     let number = c.write_value.ensures.number in
     let w = staged (omega (arith, small, number)) apart (omega (arith, low, number)) in
     bytes-written view' (view g.D.Disk c.stage.new.mft) c.args.self.now place.record place.attribute one now w.0
     told whole c.index_mut-held.ensures.value c.place_of-place.ensures.record number within w.1
-    (subst (λ n. ReplacesBlock view' (view g.D.Disk c.stage.new.mft) n w.0) number w.2) c.args.at c.args.from.now c.write_value.ensures.written
+    (subst (λ n. ReplacesBlock view' (view g.D.Disk c.stage.new.mft) n w.0) number w.2)
+    c.args.at c.args.from.now c.write_value.ensures.written
     (holds-there c.args.self.now.held.items place.record place.attribute c.args.i one c.index_mut-held.ensures.value
     c.place_of-place.ensures.record c.place_of-place.ensures.place within c.args.at (length c.args.from.now) c.requires.inside)) in
     on_ok_weaker _ weaker c.stage.ensures.staged
@@ -55,7 +59,8 @@ returns-clause-held g c =
     let place = c.place_of-place.result in
     let one = c.index_mut-held.result.now in
     let now = c.write_value.new.self in
-    let within = within-held c.args.self.now.held.items place.record place.attribute one c.index_mut-held.ensures.value c.place_of-place.ensures.attribute in
+    let within = within-held c.args.self.now.held.items place.record place.attribute one c.index_mut-held.ensures.value
+    c.place_of-place.ensures.attribute in
     let read = part-held c.args.self.now.held.items place.record place.attribute c.args.i one c.index_mut-held.ensures.value
     c.place_of-place.ensures.record c.place_of-place.ensures.place within in
     let weaker : StagesHeld view' (view g.D.Disk c.stage.new.mft) now.number now.block → IsTrue view'.told → IsApart view'.layout
@@ -78,9 +83,12 @@ returns-clause-stages g c =
     let place = c.place_of-place.result in
     let one = c.index_mut-held.result.now in
     let read = part-held c.args.self.now.held.items place.record place.attribute c.args.i one c.index_mut-held.ensures.value
-    c.place_of-place.ensures.record c.place_of-place.ensures.place (within-held c.args.self.now.held.items place.record place.attribute one c.index_mut-held.ensures.value c.place_of-place.ensures.attribute) in
+    c.place_of-place.ensures.record c.place_of-place.ensures.place
+    (within-held c.args.self.now.held.items place.record place.attribute one c.index_mut-held.ensures.value
+    c.place_of-place.ensures.attribute) in
     let weaker : MftStages g.D.Disk (record_places layout now.number) 4 c.args.mft.now c.stage.new.mft
-    → PartHeld c.args.self.now c.args.i (λ part. MftStages g.D.Disk (record_places layout part.holder) 4 c.args.mft.now c.stage.new.mft) = λ stages.
+    → PartHeld c.args.self.now c.args.i (λ part. MftStages g.D.Disk (record_places layout part.holder) 4 c.args.mft.now c.stage.new.mft) =
+    λ stages.
     subst (λ o. IsSomeAnd o (λ part. MftStages g.D.Disk (record_places layout part.holder) 4 c.args.mft.now c.stage.new.mft)) (sym read)
     (subst (λ n. MftStages g.D.Disk (record_places layout n) 4 c.args.mft.now c.stage.new.mft) c.write_value.ensures.number stages) in
     on_ok_weaker _ weaker c.stage.ensures.stages

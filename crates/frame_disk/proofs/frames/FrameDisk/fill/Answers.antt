@@ -8,7 +8,8 @@ pub invariant_of-self-clause-agrees : goal.invariant_of-self-clause-agrees
 invariant_of-self-clause-agrees g c =
     let framed = c.empty_slots.new.self in
     subst (λ now. AreFrames now c.read_into.new.room.items framed.held.items) (sym c.read_into.ensures.keeps.now)
-    (frames-beside (g.D.Disk.now framed.disk) framed.room.items c.read_into.new.room.items framed.held.items (slot_of c.args.frame) c.args.count
+    (frames-beside (g.D.Disk.now framed.disk) framed.room.items c.read_into.new.room.items framed.held.items
+    (slot_of c.args.frame) c.args.count
     c.read_into.ensures.beside
     (λ s p h lt is. c.empty_slots.ensures.emptied s p (omega (arith, c.slot_of.ensures)) (omega (arith, c.slot_of.ensures)) is)
     framed.agrees)

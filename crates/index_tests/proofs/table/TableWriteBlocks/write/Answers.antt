@@ -7,13 +7,18 @@ use Rattle.index_tests.proofs.table.TableWriteBlocks.write.Goals as goal
 
 pub invariant_of-self : goal.invariant_of-self
 invariant_of-self c = record {
-  opened = slots_opened c.args.self.now.slots.items c.args.vcn c.args.from.now (omega (arith, c.if-vcn-len.true, c.len.ensures, c.args.self.now.slots.ok.0)) (c.requires.opened _ refl) c.args.self.now.opened;
+  opened = slots_opened c.args.self.now.slots.items c.args.vcn c.args.from.now
+      (omega (arith, c.if-vcn-len.true, c.len.ensures, c.args.self.now.slots.ok.0)) (c.requires.opened _ refl) c.args.self.now.opened;
 }
 
 pub returns-then-vcn-len-clause-done : goal.returns-then-vcn-len-clause-done
-returns-then-vcn-len-clause-done c = slots_written c.args.self.now.slots.items c.args.vcn c.args.from.now (omega (arith, c.if-vcn-len.true, c.len.ensures, c.args.self.now.slots.ok.0))
+returns-then-vcn-len-clause-done c =
+    slots_written c.args.self.now.slots.items c.args.vcn c.args.from.now
+    (omega (arith, c.if-vcn-len.true, c.len.ensures, c.args.self.now.slots.ok.0))
 
 pub returns-else-vcn-len-clause-done : goal.returns-else-vcn-len-clause-done
 returns-else-vcn-len-clause-done c =
     let slots = c.args.self.now.slots.items in
-    absurd (none_not_some (slot_at slots c.args.vcn) (slot_past slots c.args.vcn (omega (arith, c.if-vcn-len.false, c.len.ensures, c.args.self.now.slots.ok.0))) (c.requires.there _ refl))
+    absurd (none_not_some (slot_at slots c.args.vcn)
+    (slot_past slots c.args.vcn (omega (arith, c.if-vcn-len.false, c.len.ensures, c.args.self.now.slots.ok.0)))
+    (c.requires.there _ refl))

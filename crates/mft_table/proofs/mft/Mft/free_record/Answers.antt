@@ -17,7 +17,8 @@ returns-clause-freed g c apart inside =
     let now = c.set_freed.new.block in
     let chain : view g' c.give_record.new.self ≡ view g' old =
     c.in_ok-give_record.ensures.view
-    ∙ view-both g' old c.read_record.new.self 2 c.in_ok-read_record.ensures.reads c.reserve.new.self c.in_ok-read_record.ensures.faults c.in_ok-reserve.ensures.keeps in
+    ∙ view-both g' old c.read_record.new.self 2 c.in_ok-read_record.ensures.reads c.reserve.new.self c.in_ok-read_record.ensures.faults
+    c.in_ok-reserve.ensures.keeps in
     let staged = subst (λ before. IsApart before.layout → 1024 * number + 1024 ≤ before.layout.initialized
     → (stored : List ℕ) × Seals now stored × ReplacesBlock before (view g' c.stage_record.new.self) number stored)
     chain c.stage_record.ensures.replaces apart inside in
@@ -48,7 +49,9 @@ returns-clause-stages g c =
     let one = c.in_ok-read_record.ensures.reads in
     let two = c.in_ok-reserve.ensures.keeps in
     let chain : view g' c.give_record.new.self ≡ view g' old =
-    c.in_ok-give_record.ensures.view ∙ view-both g' old c.read_record.new.self 2 one c.reserve.new.self c.in_ok-read_record.ensures.faults two in
+    c.in_ok-give_record.ensures.view
+    ∙ view-both g' old c.read_record.new.self 2 one c.reserve.new.self c.in_ok-read_record.ensures.faults two in
     subst (λ v. ReadsAndStages g' (record_places v.layout c.args.number) 4 2 old c.stage_record.new.self) chain
     (stages-all g' old c.read_record.new.self 2 one c.reserve.new.self c.in_ok-read_record.ensures.faults two
-    c.give_record.new.self c.in_ok-give_record.ensures.stage c.stage_record.new.self _ 4 c.stage_record.ensures.stages c.in_ok-give_record.ensures.committed)
+    c.give_record.new.self c.in_ok-give_record.ensures.stage c.stage_record.new.self _ 4 c.stage_record.ensures.stages
+    c.in_ok-give_record.ensures.committed)

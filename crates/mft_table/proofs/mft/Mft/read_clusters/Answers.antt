@@ -20,8 +20,10 @@ runs-preserved g c =
     let kept = c.runs.invariant.reads in
     record {
       within = omega (arith, c.in_ok-done.ensures.len);
-      cut = seam-next c.args.at c.runs.done _ n _ len c.in_ok-done.ensures.cut refl (omega arith) lt (omega (arith, c.in_ok-done.ensures.some));
-      read = λ told. stored_bytes-next _ _ _ c.args.into.now c.runs.into _ _ _ c.runs.done n _ refl (omega arith) (c.runs.invariant.read told)
+      cut = seam-next c.args.at c.runs.done _ n _ len c.in_ok-done.ensures.cut refl (omega arith) lt
+          (omega (arith, c.in_ok-done.ensures.some));
+      read = λ told. stored_bytes-next _ _ _ c.args.into.now c.runs.into _ _ _ c.runs.done n _ refl (omega arith)
+          (c.runs.invariant.read told)
           (rw (kept.stage.only_reads.image, kept.mounted) at c.in_ok-done.ensures.read told);
       faults = c.in_ok-done.ensures.faults ∙ c.runs.invariant.faults;
       reads = MftReads-then g.D.Disk _ c.runs.self _ _ _ _ kept c.in_ok-done.ensures.reads

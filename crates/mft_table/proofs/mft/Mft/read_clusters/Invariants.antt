@@ -13,7 +13,8 @@ invariant-runs g l = record {
   within : l.done ≤ length l.initial.into;
   cut : IsSeam l.at l.done (length l.initial.into);
   read : IsTrue (view g.D.Disk l.initial.self).told → l.into
-      ≡ stored_bytes (view g.D.Disk l.initial.self).cluster (cluster_bytes (view g.D.Disk l.initial.self).layout) (spot_of l.runs) l.at l.done
+      ≡ stored_bytes (view g.D.Disk l.initial.self).cluster (cluster_bytes (view g.D.Disk l.initial.self).layout)
+      (spot_of l.runs) l.at l.done
       ++ drop l.done l.initial.into;
   faults : faults_of g.D.Disk l.self ≡ faults_of g.D.Disk l.initial.self;
   reads : MftReads g.D.Disk l.initial.self l.self (pieces_touched l.at l.done);

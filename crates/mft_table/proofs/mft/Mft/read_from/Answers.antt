@@ -46,4 +46,5 @@ returns-in_err-read_run-in-Some-clause-reads g c =
     let part = rw (c.cluster_bytes-size.ensures, all) at c.in_err-read_run-in-Some.ensures.reads in
     let few = touched-part c.args.at (view g.D.Disk c.args.self.now).layout.cluster_sectors n len (omega arith) (omega arith) in
     MatchResult-from_err _ _ _ c.from_residual.ensures.0
-    (λ no. MftReads-then g.D.Disk _ _ _ 0 _ (pieces_touched c.args.at len) (MftReads-none g.D.Disk c.args.self.now) part (omega (arith, few)))
+    (λ no. MftReads-then g.D.Disk _ _ _ 0 _ (pieces_touched c.args.at len)
+    (MftReads-none g.D.Disk c.args.self.now) part (omega (arith, few)))

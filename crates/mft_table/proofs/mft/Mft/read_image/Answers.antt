@@ -23,7 +23,8 @@ pieces-preserved g c =
     record {
       within = omega (arith, c.in_ok-done.ensures.len);
       cut = seam-piece c.args.skip c.pieces.done at n _ len refl c.in_ok-done.ensures.len (omega arith) lt;
-      read = λ told. image_bytes-next _ c.args.into.now c.pieces.into _ _ _ c.pieces.done n _ place (omega arith) (c.pieces.invariant.read told)
+      read = λ told. image_bytes-next _ c.args.into.now c.pieces.into _ _ _ c.pieces.done n _ place (omega arith)
+          (c.pieces.invariant.read told)
           (rw c.pieces.invariant.reads.stage.only_reads.image at c.in_ok-done.ensures.read told);
       faults = c.in_ok-done.ensures.faults ∙ c.pieces.invariant.faults;
       reads = MftReads-then g.D.Disk _ c.pieces.self _ _ 1 _ c.pieces.invariant.reads c.in_ok-done.ensures.reads

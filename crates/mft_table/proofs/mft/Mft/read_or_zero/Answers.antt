@@ -11,4 +11,5 @@ returns-then-sector-sectors-clause-read g c = on_ok_weaker c.read_sector.result
 
 pub returns-clause-read : goal.returns-clause-read
 returns-clause-read g c told = rw c.told-into at (c.fill.ensures.after (λ y e. e))
-    ∙ no_sector_bytes _ c.sectors.result c.args.sector (sectors_told _ c.sectors.result told c.sectors.ensures.length) c.if-sector-sectors.false
+    ∙ no_sector_bytes _ c.sectors.result c.args.sector
+    (sectors_told _ c.sectors.result told c.sectors.ensures.length) c.if-sector-sectors.false

@@ -7,7 +7,8 @@ use Rattle.mft_table.proofs.mft.Mft.read_placed.Goals as goal
 
 pub returns-then-lcn-sectors-clause-read : goal.returns-then-lcn-sectors-clause-read
 returns-then-lcn-sectors-clause-read g c = on_ok_weaker c.read_image.result
-    (λ read told. read told ∙ image_bytes-run _ (view g.D.Disk c.args.self.now).layout c.sectors.result c.args.lcn c.args.skip _ (length c.args.into.now)
+    (λ read told. read told ∙ image_bytes-run _ (view g.D.Disk c.args.self.now).layout c.sectors.result c.args.lcn c.args.skip _
+    (length c.args.into.now)
     (sectors_told _ c.sectors.result told c.sectors.ensures.length) (omega arith)
     (omega (arith, ap (λ per. c.args.lcn * per) c.cluster_sectors.ensures.sectors)))
     c.read_image.ensures.read

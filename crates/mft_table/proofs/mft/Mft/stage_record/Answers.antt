@@ -11,7 +11,8 @@ returns-then-number-lt-COPIES-clause-replaces g c is inside = (
   c.seal.new.block,
   c.seal.ensures.seals,
   replaces-mirrored g.D.Disk _ _ (mounted_layout (mounted_of g.D.Disk c.args.self.now)) c.args.number _ _ c.seal.new.block
-      c.place-low.ensures.place c.place-high.ensures.place c.put_two.ensures _ _ c.copy_place-copy.ensures.place c.if-number-lt-COPIES.true c.put_two-then-number-lt-COPIES.ensures is inside
+      c.place-low.ensures.place c.place-high.ensures.place c.put_two.ensures _ _ c.copy_place-copy.ensures.place c.if-number-lt-COPIES.true
+      c.put_two-then-number-lt-COPIES.ensures is inside
       (omega (arith, length-opened_of c.seal.new.block, c.seal.ensures.seals.same.len)),
 )
 

@@ -33,5 +33,6 @@ returns-clause-stages g c =
 
 pub stage_record-requires-clause-number : goal.stage_record-requires-clause-number
 stage_record-requires-clause-number g c =
-    let within = slice_get_within c.args.self.now.mounted.records c.args.number false (c.requires.free c.args.number (omega arith) (omega arith)) in
+    let within = slice_get_within c.args.self.now.mounted.records c.args.number false
+    (c.requires.free c.args.number (omega arith) (omega arith)) in
     omega (arith, within, c.in_ok-take_flag.ensures.count, ap (λ (m : Mounted). length m.records) c.in_ok-reserve.ensures.keeps.mounted)

@@ -14,7 +14,8 @@ returns g c =
       disk = second.disk ∙ first.disk;
       two = λ apart. record {
         low = λ told. second.put.others c.args.low apart ∙ first.put.here told ∙ c.copy_from_slice.ensures.after;
-        high = λ told. second.put.here (subst IsTrue (sym first.goes_on.told_image) told) ∙ c.copy_from_slice-2.ensures.after ∙ take_all 512 (drop 512 c.args.stored.now) (simp length-drop (omega (arith, c.fits-stored)));
+        high = λ told. second.put.here (subst IsTrue (sym first.goes_on.told_image) told) ∙ c.copy_from_slice-2.ensures.after
+            ∙ take_all 512 (drop 512 c.args.stored.now) (simp length-drop (omega (arith, c.fits-stored)));
         others = λ s a b. second.put.others s b ∙ first.put.others s a;
       };
       places = StagesOnly-twice g.D.Disk _ _ c.args.stage.now c.put.new.self c.put-2.new.self first.places second.places;

@@ -43,7 +43,8 @@ returns-in-Links c facts now session told =
 pub returns-in-Df : goal.returns-in-Df
 returns-in-Df c facts now session told =
     by_case facts (tree_of c.args.self.now) c.args.opens.now now session c.args.command.now commands.Df
-    (Ok (df_of c.args.facts.now)) (Ok c.df.result) c.in-Df.is (df-due c.args.facts.now facts (tree_of c.args.self.now) c.args.opens.now now session told) (sym (ap Ok c.df.ensures))
+    (Ok (df_of c.args.facts.now)) (Ok c.df.result) c.in-Df.is
+    (df-due c.args.facts.now facts (tree_of c.args.self.now) c.args.opens.now now session told) (sym (ap Ok c.df.ensures))
 
 pub returns-in-Stat : goal.returns-in-Stat
 returns-in-Stat c facts now session told =

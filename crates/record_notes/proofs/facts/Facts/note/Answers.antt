@@ -11,4 +11,5 @@ returns-then-not-is_right_record-clause-noted c = λ records is note.
 pub returns-clause-noted : goal.returns-clause-noted
 returns-clause-noted c = λ records is note.
     let meets = (c.is_right_record.ensures.meets records is).0 c.if-not-is_right_record.false in
-    FactsNote-right records c.args.n c.args.self.now _ c.note_right.ensures.kept meets (c.in_ok-note_right.ensures.noted records is meets) note
+    FactsNote-right records c.args.n c.args.self.now _ c.note_right.ensures.kept meets
+    (c.in_ok-note_right.ensures.noted records is meets) note

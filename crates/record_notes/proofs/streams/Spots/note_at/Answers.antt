@@ -25,7 +25,8 @@ pub invariant_of-self-2 : goal.invariant_of-self-2
 invariant_of-self-2 c =
     let old = c.args.self.now in
     let some : c.spot.result ≢ Outside =
-    subst (λ s. s ≢ Outside) (sym c.spot.ensures) (spot_of-inside c.args.runs.now (c.args.at - c.args.first) (omega (arith, c.requires.held, c.requires.begun))) in
+    subst (λ s. s ≢ Outside) (sym c.spot.ensures)
+    (spot_of-inside c.args.runs.now (c.args.at - c.args.first) (omega (arith, c.requires.held, c.requires.begun))) in
     record { skipped = skips-set old.spots.items old.skips.items c.args.at c.spot.result c.requires.inside some old.skipped }
 
 pub returns-clause-noted : goal.returns-clause-noted

@@ -20,7 +20,8 @@ returns-clause-noted c = λ n extents.
     let old = c.args.self.now in
     let its = sym c.in-Some.ensures in
     let means = sym c.in_ok-runs.ensures ∙ c.in-Some-2.is in
-    stream-runs extents n a text c.in-Some-2.runs c.first_vcn.result old _ its means c.first_vcn.ensures (c.in_ok-note_first.ensures n extents)
+    stream-runs extents n a text c.in-Some-2.runs c.first_vcn.result old _ its means c.first_vcn.ensures
+    (c.in_ok-note_first.ensures n extents)
     (TellsPlaces-runs extents n a text c.in-Some-2.runs old.placement c.note_runs.new.self its means c.note_runs.ensures.placed
     c.note_runs.ensures.in_clusters c.note_runs.ensures.covered)
     c.note_runs-2.ensures.len c.note_runs-2.ensures.held c.note_runs-2.ensures.before

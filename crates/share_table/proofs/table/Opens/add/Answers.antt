@@ -32,7 +32,8 @@ free c =
     ap (λ n. list_any (is_handle c.args.session n) c.args.self.now) c.free_handle-handle.ensures
     ∙ free-is_free c.args.self.now c.args.session (may c).few
 
-placed : (c : In_ok-insert) → insert c.self.inside.entries.items c.place_of-place.result (new c) ≡ put_in_order open_above (new c) c.self.inside.entries.items
+placed : (c : In_ok-insert) → insert c.self.inside.entries.items c.place_of-place.result (new c)
+    ≡ put_in_order open_above (new c) c.self.inside.entries.items
 placed c =
     subst (λ opens. insert opens c.place_of-place.result (new c) ≡ put_in_order open_above (new c) opens) c.as_slice.ensures.value
     (c.place_of-place.ensures.place (new c) refl refl)

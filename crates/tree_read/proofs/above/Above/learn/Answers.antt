@@ -20,7 +20,8 @@ returns-in-Some g c = record {
       (sym (c.in_ok-links_of.ensures ∙ links-told v c.args.dir c.in_ok-file.file is (c.requires.volume told).sound))
       ∙ sym c.in-Some.ensures in
       let updates = c.in_ok-insert-in-Some.ensures.updates in (
-        above-more v c.args.self.now (record { names = c.insert.new.self; leads = c.args.self.now.leads }) c.args.dir c.in-Some.link (c.requires.above told) named refl updates,
+        above-more v c.args.self.now (record { names = c.insert.new.self; leads = c.args.self.now.leads }) c.args.dir c.in-Some.link
+            (c.requires.above told) named refl updates,
         updates.1 ∙ sym named,
       ));
 }
