@@ -19,7 +19,7 @@ use Rattle.volume_def.proofs.PartLaws.{record_at-block}
 use Rattle.tree_model.specs.Drops.{is_last_name}
 use Rattle.tree_model.specs.Facts.{IsVolumeOf, is_whole_table}
 use Rattle.tree_model.specs.Hidden.{is_hidden}
-use Rattle.tree_model.specs.Leaving.{can_go, has_exit, has_one_name, has_values_alone, stands_alone}
+use Rattle.tree_model.specs.Ways.{can_go, has_exit, has_one_name, has_values_alone, stands_alone}
 use Rattle.tree_model.specs.Reading.{all_links, link_for, node_at, node_by, read}
 use Rattle.tree_model.specs.RootRoom.{has_list}
 use Rattle.tree_model.specs.Staging.{cannot_edit}

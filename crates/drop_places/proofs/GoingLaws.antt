@@ -6,7 +6,7 @@ use Rattle.volume_def.specs.View.{VolumeView}
 use Rattle.mft_table.specs.declared.mft.Mft.{Mft}
 use Rattle.mft_table.specs.Mft.{view}
 use Rattle.tree_model.specs.Facts.{is_whole_table}
-use Rattle.tree_model.specs.Leaving.{has_exit, stands_alone}
+use Rattle.tree_model.specs.Ways.{has_exit, stands_alone}
 use Rattle.tree_model.specs.Reading.{read}
 use Rattle.tree_model.specs.Staging.{cannot_edit}
 use Rattle.tree_model.specs.Ways.{has_copied_name}

@@ -14,7 +14,7 @@ use Rattle.volume_def.specs.View.{VolumeView}
 use Rattle.file_record.specs.Held.{attributes_held, parts_held}
 use Rattle.file_record.specs.declared.base.BaseFile.{BaseFile}
 use Rattle.attr_store.proofs.FirstLaws.{AreHeld, AreHeld-file}
-use Rattle.tree_model.specs.Leaving.{has_values_alone, stands_alone}
+use Rattle.tree_model.specs.Ways.{has_values_alone, stands_alone}
 use Rattle.tree_model.specs.Reading.{link_for}
 use Rattle.tree_edit.specs.FileLinks.{links_held}
 use Rattle.tree_edit.specs.Nodes.{IsFileHeld}

@@ -5,7 +5,7 @@ use Rattle.std.specs.Prelude.{if◌then◌else◌}
 use Rattle.volume_def.specs.View.{VolumeView}
 use Rattle.tree_model.specs.Cases.{is_dos_link}
 use Rattle.tree_model.specs.Facts.{is_whole_table}
-use Rattle.tree_model.specs.Leaving.{can_go}
+use Rattle.tree_model.specs.Ways.{can_go}
 use Rattle.tree_model.specs.Paths.{and_then, resolve}
 use Rattle.tree_model.specs.Reading.{read}
 use Rattle.tree_model.specs.Refusals.{Facts, refusal, when}

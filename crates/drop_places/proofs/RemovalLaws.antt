@@ -13,7 +13,7 @@ use Rattle.volume_def.specs.FileNames.{names_of}
 use Rattle.volume_def.specs.Files.{records_of}
 use Rattle.volume_def.specs.View.{VolumeView}
 use Rattle.tree_model.specs.Drops.{is_last_name, is_link}
-use Rattle.tree_model.specs.Leaving.{has_one_name}
+use Rattle.tree_model.specs.Ways.{has_one_name}
 use Rattle.tree_model.specs.Paths.{and_then}
 use Rattle.tree_model.specs.Reading.{all_links, link_for, read}
 use Rattle.tree_model.specs.Refusals.{when}

@@ -6,7 +6,7 @@ use Rattle.ntfs_def.specs.StandardInformation.{standard_times}
 use Rattle.volume_def.specs.View.{VolumeView}
 use Rattle.tree_model.specs.Cases.{conflicts, asks_of, is_dos_link}
 use Rattle.tree_model.specs.Facts.{is_whole_table}
-use Rattle.tree_model.specs.Leaving.{can_go, has_exit}
+use Rattle.tree_model.specs.Ways.{can_go, has_exit}
 use Rattle.tree_model.specs.Paths.{and_then}
 use Rattle.tree_model.specs.Reading.{link_for, read, standard_flags, standard_of}
 use Rattle.tree_model.specs.Refusals.{first_some, when}

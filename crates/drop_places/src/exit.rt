@@ -2,7 +2,7 @@
 ghost use Rattle.std.specs.Prelude.{◌≡◌, IsTrue};
 ghost use Rattle.mft_table.specs.InUse.{IsInUse};
 ghost use Rattle.mft_table.specs.Mft.{view};
-ghost use Rattle.tree_model.specs.Leaving.{has_exit};
+ghost use Rattle.tree_model.specs.Ways.{has_exit};
 ghost use Rattle.tree_edit.specs.Answered.{Finds};
 ghost use Rattle.tree_edit.specs.Nodes.{number_of};
 ghost use Rattle.tree_edit.specs.Walks.{IsDirectoryHeld};

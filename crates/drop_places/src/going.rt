@@ -3,7 +3,7 @@ ghost use Rattle.std.specs.Prelude.{◌≡◌, ◌&&◌, ◌<◌, IfOk, IsTrue, 
 ghost use Rattle.mft_table.specs.InUse.{IsInUse};
 ghost use Rattle.mft_table.specs.Mft.{mounted_of, view};
 ghost use Rattle.tree_model.specs.Facts.{is_whole_table};
-ghost use Rattle.tree_model.specs.Leaving.{has_exit, stands_alone};
+ghost use Rattle.tree_model.specs.Ways.{has_exit, stands_alone};
 ghost use Rattle.tree_model.specs.Reading.{read};
 ghost use Rattle.tree_model.specs.Staging.{cannot_edit};
 ghost use Rattle.tree_edit.specs.Answered.{Finds};

@@ -13,7 +13,7 @@ use Rattle.file_record.specs.Written.{IsWholeFile}
 use Rattle.edit_def.specs.Items.{HasItems}
 use Rattle.edit_def.specs.Marks.{Marks}
 use Rattle.index_puts.specs.Held.{HoldsItems}
-use Rattle.tree_model.specs.Leaving.{has_exit}
+use Rattle.tree_model.specs.Ways.{has_exit}
 use Rattle.file_makes.specs.Enters.{IsReadyFor}
 
 -- There is an entry of a name that can go out: of a record of the index that has another one, or of a root without records.

@@ -8,7 +8,7 @@ use Rattle.volume_def.specs.Files.{records_of}
 use Rattle.volume_def.specs.Sound.{IsSound}
 use Rattle.volume_def.specs.View.{VolumeView}
 use Rattle.tree_model.specs.Effects.{drop_name, tree_after}
-use Rattle.tree_model.specs.Leaving.{has_exit}
+use Rattle.tree_model.specs.Ways.{has_exit}
 use Rattle.tree_model.specs.Reading.{link_for, read}
 use Rattle.tree_model.specs.Subjects.{at_file}
 use Rattle.tree_model.specs.declared.command.Command.TheVariants as c

@@ -9,7 +9,7 @@ use Rattle.volume_def.specs.View.{VolumeView}
 use Rattle.mft_table.specs.HeldTables.{AreStored}
 use Rattle.tree_model.specs.Effects.{after}
 use Rattle.tree_model.specs.Facts.{IsVolumeOf}
-use Rattle.tree_model.specs.Leaving.{has_exit}
+use Rattle.tree_model.specs.Ways.{has_exit}
 use Rattle.tree_model.specs.Reading.{read}
 use Rattle.tree_model.specs.Refusals.{Facts, outcome}
 use Rattle.tree_model.specs.Subjects.{Machine}

@@ -21,7 +21,7 @@ use Rattle.tree_model.specs.Bill.{Change, bill_of, bill_with, changes_of, cluste
 use Rattle.tree_model.specs.Bill.{directory_change, is_entry_of, is_touched, links_with, object_id_change, point_change, touched_file, touches_file}
 use Rattle.tree_model.specs.IndexRoom.{Index, all_nodes, directory_index, has_inner_entry, holds_entry, is_object_id_item, is_point_item}
 use Rattle.tree_model.specs.IndexRoom.{object_id_index, point_index}
-use Rattle.tree_model.specs.Leaving.{has_exit}
+use Rattle.tree_model.specs.Ways.{has_exit}
 use Rattle.tree_model.specs.Need.{Counted, empty_bill}
 use Rattle.tree_model.specs.Reading.{link_by, link_for, read}
 use Rattle.tree_model.specs.Subjects.{Located}

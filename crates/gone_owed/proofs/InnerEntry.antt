@@ -19,7 +19,7 @@ use Rattle.volume_def.specs.View.{VolumeView}
 use Rattle.tree_model.specs.IndexRoom.{all_nodes, directory_index, has_inner_entry, nodes_under, other_nodes, root_of}
 use Rattle.tree_model.specs.LeafEntry.{has_entry_beside, has_leaf_entry, hits_on}
 use Rattle.tree_model.specs.LeafRoom.{leaf_for, leaf_of, name_side, names_of_directory, record_at}
-use Rattle.tree_model.specs.Leaving.{has_exit}
+use Rattle.tree_model.specs.Ways.{has_exit}
 use Rattle.tree_model.specs.RootEntry.{has_root_entry, is_in_root}
 use Rattle.tree_model.specs.RootRoom.{has_list, is_root_leaf}
 use Rattle.name_edits.proofs.OnceNames.{named_item, once-item}

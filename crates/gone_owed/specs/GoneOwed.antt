@@ -8,7 +8,7 @@ use Rattle.volume_def.specs.View.{VolumeView}
 use Rattle.mft_table.specs.HeldTables.{AreStored}
 use Rattle.mft_table.specs.declared.mounted.Mounted.{Mounted}
 use Rattle.tree_model.specs.Effects.{drop_name}
-use Rattle.tree_model.specs.Leaving.{has_exit}
+use Rattle.tree_model.specs.Ways.{has_exit}
 use Rattle.tree_model.specs.Reading.{link_for, read}
 use Rattle.tree_model.specs.Staging.{has_object_id}
 use Rattle.tree_model.specs.Cases.{has_point}

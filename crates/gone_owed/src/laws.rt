@@ -6,7 +6,7 @@ ghost use Rattle.volume_def.specs.Files.{records_of};
 ghost use Rattle.volume_def.specs.Sound.{IsSound};
 ghost use Rattle.volume_def.specs.View.{VolumeView};
 ghost use Rattle.tree_model.specs.Bill.{bill_of};
-ghost use Rattle.tree_model.specs.Leaving.{has_exit};
+ghost use Rattle.tree_model.specs.Ways.{has_exit};
 ghost use Rattle.tree_model.specs.Need.{empty_bill};
 ghost use Rattle.tree_model.specs.Reading.{read};
 ghost use Rattle.tree_model.specs.declared.command.Command.TheVariants as c;

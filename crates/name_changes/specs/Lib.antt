@@ -1,4 +1,5 @@
 pub mod MakesFound
+pub mod RemovesFound
 pub mod Staged
 -- Words of the crates below, passed on to those above.
 pub use Rattle.make_places.specs.Makes

@@ -14,7 +14,6 @@ pub mod StreamRoom
 pub mod Bill
 pub mod NoRoom
 pub mod Ways
-pub mod Leaving
 pub mod Staging
 pub mod Refusals
 pub mod Answers

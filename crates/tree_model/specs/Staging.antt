@@ -33,6 +33,7 @@ is_built (c.Open path stream access share) = true
 is_built (c.Hread handle at len) = true
 is_built (c.Create path) = true
 is_built (c.Mkdir path) = true
+is_built (c.Rm path) = true
 is_built (c.Write path stream at bytes) = true
 is_built (c.Truncate path stream size) = true
 is_built (c.Punch path stream at len) = true

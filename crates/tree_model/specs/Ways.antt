@@ -2,20 +2,23 @@
 use Rattle.std.specs.Prelude.{ℕ, ◌+◌, ◌*◌, ◌-◌, ◌==◌, ◌&&◌, ◌||◌, ◌++◌, nat_le, nat_lt, not, Bool, true, false, List, length, count_by}
 use Rattle.std.specs.Prelude.{Option, is_none, is_some}
 use Rattle.std.specs.Prelude.{option_and_then}
-use Rattle.std.specs.List.{list_any, range_with_len}
+use Rattle.std.specs.List.{list_all, list_any, range_with_len}
 use Rattle.std.specs.Option.{option_map_or}
 use Rattle.ntfs_def.specs.Rounded.{clusters_for, up_to_8}
 use Rattle.ntfs_def.specs.declared.records.TheConstants.{FIRST_ORDINARY}
 use Rattle.volume_def.specs.BitmapClauses.{cluster_bits, record_bits, written_by}
-use Rattle.volume_def.specs.Files.{Part, all_covered, content_extent, parts, record_on, records_of}
+use Rattle.volume_def.specs.FileNames.{names_of}
+use Rattle.volume_def.specs.Files.{Part, all_covered, content_extent, content_value, parts, record_on, records_of}
 use Rattle.volume_def.specs.OwnersClause.{times_owned}
 use Rattle.volume_def.specs.Room.{free_bytes, unowned_clusters}
 use Rattle.volume_def.specs.Table.{cluster_bytes}
 use Rattle.volume_def.specs.Values.{first_part}
 use Rattle.volume_def.specs.View.{VolumeView}
 use Rattle.tree_model.specs.Cases.{size_of}
+use Rattle.tree_model.specs.LeafEntry.{has_leaf_entry}
 use Rattle.tree_model.specs.LeafRoom.{has_leaf_room}
 use Rattle.tree_model.specs.Reading.{standard_of}
+use Rattle.tree_model.specs.RootEntry.{has_root_entry}
 use Rattle.tree_model.specs.RootRoom.{has_list, has_root_room}
 use Rattle.tree_model.specs.StreamRoom.{goes_over, initialized_size, new_clusters, stream_parts, stream_value, stream_value_len}
 use Rattle.tree_model.specs.Subjects.{Located, NewName, NameIn}
@@ -172,7 +175,7 @@ is_done_in_clusters view tree (c.Truncate path stream size) at = ends_in_cluster
 is_done_in_clusters view tree (c.Rmstream path name) at = is_extent_alone view tree at
 is_done_in_clusters view tree other at = false
 
--- What is done IN A DIRECTORY: a name comes, of a file, or a directory, that is made for it. The index has room for its entry: the header
+-- What is done IN A DIRECTORY: a name comes, of a file, or a directory, that is made for it, or goes, with its file. The index has room for its entry: the header
 -- of 16 bytes, and the value of a $FILE_NAME. The directory has no name in a record that $MFTMirr copies, since its own entries tell its
 -- times.
 abbrev pub stands_in_copied : Link → Bool
@@ -206,7 +209,33 @@ can_come view tree (NameIn dir units) =
     not (has_copied_name tree dir) && (has_name_room view dir units && has_record view)
 can_come view tree other = false
 
+-- A FILE GOES with the name under which it is found: its only one, a DOS name counted. All of its attributes are values, in its one
+-- record, so no cluster goes with it. The entry of the name can go out of the index of its directory: of a record of the index that has
+-- another one, or of a root that leads to no record. The directory has no name in a record that $MFTMirr copies, since its own entries tell
+-- its times.
+abbrev pub has_values_alone : VolumeView → ℕ → Bool
+has_values_alone view f = list_all (λ (part : Part). is_some (content_value part.content)) (parts (records_of view) f)
+
+abbrev pub has_one_name : VolumeView → ℕ → Bool
+has_one_name view f = length (names_of (records_of view) f) == 1
+
+-- the file has no part that its going would leave behind
+abbrev pub stands_alone : VolumeView → ℕ → Bool
+stands_alone view f = has_no_list view f && (has_values_alone view f && has_one_name view f)
+
+-- THE INDEX HAS AN ENTRY of the name that can go out.
+abbrev pub has_exit : VolumeView → ℕ → List ℕ → Bool
+has_exit view dir units = has_leaf_entry view dir units || has_root_entry view dir units
+
+abbrev pub goes_under : VolumeView → Tree → Link → Bool
+goes_under view tree link =
+    not (has_copied_name tree link.parent) && (stands_alone view link.child && has_exit view link.parent link.name)
+
+abbrev pub can_go : VolumeView → Tree → Option Link → Bool
+can_go view tree link = option_map_or (goes_under view tree) link false
+
 abbrev pub is_done_in_directory : VolumeView → Tree → Command → Located → Bool
 is_done_in_directory view tree (c.Create path) at = can_come view tree at.new
 is_done_in_directory view tree (c.Mkdir path) at = can_come view tree at.new
+is_done_in_directory view tree (c.Rm path) at = can_go view tree at.link
 is_done_in_directory view tree other at = false

@@ -1,6 +1,6 @@
 use Rattle.std.proofs.Common.{◌≡◌, ◌&&◌, Bool, List, ℕ, refl, sym, ap, subst, ◌∙◌}
 use Rattle.mft_table.specs.Mft.{view}
-use Rattle.tree_model.specs.Leaving.{has_exit, stands_alone}
+use Rattle.tree_model.specs.Ways.{has_exit, stands_alone}
 use Rattle.tree_edit.specs.Answered.{Finds}
 use Rattle.tree_edit.specs.Nodes.{number_of}
 use Rattle.tree_edit.specs.Standings.{number_within}

@@ -1,5 +1,5 @@
 use Rattle.std.proofs.Common.{◌≡◌, subst, sym, true}
-use Rattle.tree_model.specs.Leaving.{has_exit}
+use Rattle.tree_model.specs.Ways.{has_exit}
 use Rattle.gone_owed.proofs.GoneBill.{bill-gone}
 use Rattle.gone_owed.proofs.laws.gone_has_room.Goals as goal
 
